@@ -1,6 +1,5 @@
-//! The proved packet calls against the independent second program: one input,
-//! both answers, both buffers (the scope paper, section What the promises
-//! settle).
+//! The proved calls against the independent second program: one input, both
+//! answers, both buffers (the scope paper, section What the promises settle).
 
 #![deny(warnings)]
 

@@ -1,8 +1,11 @@
 //! The packet calls, proved against second: every input of some kinds, and many
 //! at random.
 
-use compare::{alike, seed};
-use second::material::{self, every_byte, every_damage, every_string, TELLING};
+use compare::alike::packet as alike;
+use compare::seed;
+use second::material::packet::{random_length, TELLING};
+use second::material::{every_byte, every_damage, every_string};
+use second::material::{random_bytes, random_damage, random_room};
 use second::packet::framed;
 use second::random::Random;
 
@@ -84,22 +87,12 @@ fn every_other_refusal_comes_before_the_room() {
     }
 }
 
-/// Exactly the room needed, one byte less, none, or some more.
-fn random_room(random: &mut Random, needed: usize) -> usize {
-    match random.below(4) {
-        0 => needed,
-        1 => needed.saturating_sub(1),
-        2 => 0,
-        _ => needed + 1 + random.below(64),
-    }
-}
-
 #[test]
 fn random_payloads() {
     let mut random = Random::new(seed::told("random_payloads"));
     for _ in 0..ROUNDS {
-        let length = material::random_length(&mut random);
-        let payload = material::random_bytes(&mut random, length);
+        let length = random_length(&mut random);
+        let payload = random_bytes(&mut random, length, &TELLING);
         let packet = framed(&payload);
         alike::write(&payload, random_room(&mut random, packet.len()));
         alike::read(&packet, random_room(&mut random, length));
@@ -111,9 +104,9 @@ fn random_payloads() {
 fn random_damaged_packets() {
     let mut random = Random::new(seed::told("random_damaged_packets"));
     for _ in 0..ROUNDS {
-        let length = material::random_length(&mut random);
-        let payload = material::random_bytes(&mut random, length);
-        let damaged = material::random_damage(&mut random, &framed(&payload));
+        let length = random_length(&mut random);
+        let payload = random_bytes(&mut random, length, &TELLING);
+        let damaged = random_damage(&mut random, &framed(&payload), &TELLING);
         alike::read(&damaged, random_room(&mut random, length));
     }
 }

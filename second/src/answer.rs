@@ -14,8 +14,9 @@ pub type Answer = (u8, usize);
 /// Puts an outcome into the lent buffer.
 ///
 /// The scope paper, section Numbered refusals of calls, names the room last for
-/// both packet calls, so any other refusal has been found by now. A refusal
-/// leaves the whole buffer alone, a success all that lies behind its output.
+/// every call that lends a buffer, so any other refusal has been found by now. A
+/// refusal leaves the whole buffer alone, a success all that lies behind its
+/// output.
 pub fn give(outcome: Outcome, out: &mut [u8]) -> Answer {
     match outcome {
         Err(refusal) => (refusal, 0),

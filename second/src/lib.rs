@@ -6,19 +6,24 @@
 //! alone and goes other ways on purpose (heap, `Vec`, a table for the check), so
 //! that one slip is unlikely to be made twice.
 //!
-//! `bit_by_bit` is the exception: it works as the proved code has to, without
-//! heap and one bit at a time, and is there to measure speed against.
+//! `by_hand` is the exception: it works as the proved code has to, without heap
+//! and one bit or byte at a time, and is there to measure speed against.
 
 #![deny(warnings)]
 #![forbid(unsafe_code)]
 
 pub mod answer;
-pub mod bit_by_bit;
+pub mod by_hand;
 pub mod check;
 pub mod hex;
 pub mod material;
+pub mod message;
+pub mod object;
 pub mod packet;
+pub mod parameter;
+pub mod pieces;
 pub mod random;
 pub mod script;
 pub mod stored;
+pub mod tag;
 pub mod vectors;

@@ -1,21 +1,23 @@
 //! `second samples` runs a samples script from standard input; `second script
-//! FILE` makes the stored script from the vectors file.
+//! VECTORS_DIR` makes the stored script from the folder of vectors files.
 
 #![deny(warnings)]
 
-use second::{script, stored, vectors};
+use second::vectors::Vectors;
+use second::{script, stored};
 use std::io::{self, Read, Write};
+use std::path::Path;
 use std::process::ExitCode;
 
 const USAGE: &str = "usage: second samples < SCRIPT > LOG
-       second script VECTORS > SCRIPT";
+       second script VECTORS_DIR > SCRIPT";
 
 fn main() -> ExitCode {
     let arguments: Vec<String> = std::env::args().skip(1).collect();
     let arguments: Vec<&str> = arguments.iter().map(String::as_str).collect();
     let output = match arguments[..] {
         ["samples"] => samples(),
-        ["script", file] => stored_script(file),
+        ["script", folder] => stored_script(folder),
         _ => {
             eprintln!("{USAGE}");
             return ExitCode::from(2);
@@ -37,8 +39,7 @@ fn samples() -> Result<Vec<u8>, String> {
     Ok(script::run(&script))
 }
 
-fn stored_script(file: &str) -> Result<Vec<u8>, String> {
-    let text = std::fs::read_to_string(file).map_err(|e| format!("{file}: {e}"))?;
-    let entries = vectors::parse(&text).map_err(|why| format!("{file}: {why}"))?;
-    Ok(stored::script(&entries)?.into_bytes())
+fn stored_script(folder: &str) -> Result<Vec<u8>, String> {
+    let vectors = Vectors::read(Path::new(folder))?;
+    Ok(stored::script(&vectors)?.into_bytes())
 }

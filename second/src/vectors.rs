@@ -1,21 +1,46 @@
-//! The vectors file: blocks of `key: value` lines with blank lines between
+//! The vectors files: blocks of `key: value` lines with blank lines between
 //! them; a line that starts with `#` is a comment.
 
 use crate::hex;
 use crate::packet::SYN;
+use std::path::Path;
 
 /// What the device sends before a response packet (the scope paper, section
 /// Reception).
 const ACK: u8 = 0x06;
 
-/// One block of the file.
+/// The documents' examples, file by file.
+pub struct Vectors {
+    pub packets: Vec<Entry>,
+    pub messages: Vec<Entry>,
+    pub objects: Vec<Entry>,
+}
+
+/// One block of a file.
 pub struct Entry {
     fields: Vec<(String, String)>,
 }
 
+impl Vectors {
+    /// Reads the three files of the folder.
+    pub fn read(folder: &Path) -> Result<Vectors, String> {
+        let entries = |name| {
+            let file = folder.join(name);
+            let told = |why: String| format!("{}: {why}", file.display());
+            let text = std::fs::read_to_string(&file).map_err(|e| told(e.to_string()))?;
+            parse(&text).map_err(told)
+        };
+        Ok(Vectors {
+            packets: entries("packets.txt")?,
+            messages: entries("messages.txt")?,
+            objects: entries("objects.txt")?,
+        })
+    }
+}
+
 /// Every block, in the file's order. Any line that is none of the above, a key
-/// given twice or a block without `id` or `kind` is an error, so that nothing
-/// is passed over in silence.
+/// given twice or a block without `id` is an error, so that nothing is passed
+/// over in silence.
 pub fn parse(text: &str) -> Result<Vec<Entry>, String> {
     let mut entries = Vec::new();
     let mut fields = Vec::new();
@@ -31,7 +56,6 @@ pub fn parse(text: &str) -> Result<Vec<Entry>, String> {
                 fields: std::mem::take(&mut fields),
             };
             entry.text("id")?;
-            entry.text("kind")?;
             entries.push(entry);
         }
     }
@@ -69,16 +93,30 @@ impl Entry {
         }
     }
 
+    /// The bytes that an entry must have.
+    pub fn hex(&self) -> Result<Vec<u8>, String> {
+        let bytes = self.bytes("hex")?;
+        bytes.ok_or(format!("{}: no hex", self.text("id")?))
+    }
+
     /// The bytes of `hex` as the packet reader gets them. Where the entry shows
     /// a whole reply, its ACK is left off: the packet starts at SYN.
     pub fn packet(&self) -> Result<Vec<u8>, String> {
-        let line = self
-            .bytes("hex")?
-            .ok_or(format!("{}: no hex", self.text("id")?))?;
+        let line = self.hex()?;
         Ok(match line.as_slice() {
             [ACK, SYN, ..] => line[1..].to_vec(),
             _ => line,
         })
+    }
+
+    /// Whether a message is a response: the pinpad sends those, and the host
+    /// sends the commands.
+    pub fn response(&self) -> Result<bool, String> {
+        match self.text("dir")? {
+            "PP" => Ok(true),
+            "SPE" => Ok(false),
+            other => Err(format!("{}: dir {other}", self.text("id")?)),
+        }
     }
 
     /// The steps of an exchange: who sends, and what.
@@ -111,6 +149,17 @@ mod tests {
         assert_eq!(entries[0].packet(), Ok(vec![0x16, 0x4F]));
         let steps = vec![("SPE", vec![0x16, 0x17]), ("PP", vec![0x15])];
         assert_eq!(entries[1].steps(), Ok(steps));
+        assert!(entries[1].hex().is_err());
+    }
+
+    #[test]
+    fn who_sends_a_message_tells_its_kind() {
+        let text = "id: A\ndir: PP\n\nid: B\ndir: SPE\n\nid: C\ndir: -\n\nid: D\n";
+        let entries = parse(text).expect("the text is well formed");
+        assert_eq!(entries[0].response(), Ok(true));
+        assert_eq!(entries[1].response(), Ok(false));
+        assert!(entries[2].response().is_err());
+        assert!(entries[3].response().is_err());
     }
 
     #[test]
@@ -118,7 +167,6 @@ mod tests {
         for text in [
             "id: A\nkind: packet\nstray\n",
             "id: A\nkind: packet\nkind: packet\n",
-            "id: A\n",
             "kind: packet\n",
         ] {
             assert!(parse(text).is_err(), "{text}");

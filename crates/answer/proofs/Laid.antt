@@ -1,11 +1,11 @@
 -- The laws of bytes laid over a list.
-use mathlib.Core.Path.{_≡_, refl, _∙_}
-use mathlib.Core.List.{List, [], _∷_, _++_}
+use mathlib.Core.Path.{_≡_, refl, sym, ap, _∙_}
+use mathlib.Core.List.{List, [], _∷_, _++_, append-assoc, append-nil}
 use Prim.Native.Nat.{ℕ, suc, _+_, _≤_, _<_}
 use native.Mathlib.Omega.{arith}
-use native.Mathlib.Nat.{zero-add}
+use native.Mathlib.Nat.{zero-add, add-zero}
 use native.Mathlib.Numerals.{add-one}
-use lib.ListN.{length, length-drop, set, length-append}
+use lib.ListN.{length, take, drop, length-drop, set, length-append, take-append-drop}
 use lib.Seq.{length-take-le, take-append-seam, drop-append-add, drop-drop, sets-eq}
 use Rattle.answer.specs.Answers.{over}
 use borrow.Author.Tests.{lt-leb, le-leb}
@@ -54,3 +54,25 @@ put-fits out at s r out′ h p = record { bytes = p .bytes ∙ simp (le-leb (at 
 
 pub pasted-length : (l : List ℕ) (at : ℕ) (s : List ℕ) → at + length s ≤ length l → length (pasted l at s) ≡ length l
 pasted-length l at s h = simp (length-append, length-drop, length-take-le at l (omega arith)) (omega arith)
+
+-- ---- bytes put next to one another
+
+pub pasted-over : (l : List ℕ) (at : ℕ) (s : List ℕ) → at ≤ length l → pasted l at s ≡ over (take at l ++ s) l
+pasted-over l at s h = simp (length-append, length-take-le at l h)
+
+-- what is put next to one another is put at once
+pub pasted-join : (l : List ℕ) (at : ℕ) (a b : List ℕ) → at ≤ length l → pasted (pasted l at a) (at + length a) b ≡ pasted l at (a ++ b)
+pasted-join l at a b h =
+    let n : at + length a ≡ length (take at l ++ a) = simp (length-append, length-take-le at l h) in
+    ap (λ (x : List ℕ). pasted x (at + length a) b) (pasted-over l at a h)
+    ∙ ap (λ (k : ℕ). pasted (over (take at l ++ a) l) k b) n
+    ∙ over-more (take at l ++ a) b l
+    ∙ ap (λ (x : List ℕ). over x l) (append-assoc (take at l) a b)
+    ∙ sym (pasted-over l at (a ++ b) h)
+
+-- nothing is put
+pub pasted-none : (l : List ℕ) (at : ℕ) → pasted l at [] ≡ l
+pasted-none l at = simp (append-nil, add-zero, take-append-drop)
+
+pub puts-long : (l s : List ℕ) (at r : ℕ) (out : List ℕ) → at + length s ≤ length l → Puts l at s r out → length out ≡ length l
+puts-long l s at r out h u = ap length (u .bytes) ∙ pasted-length l at s h

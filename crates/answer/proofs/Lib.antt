@@ -1,4 +1,5 @@
--- `Laws`, `Laid` and `Pieces` serve the proofs of calls that answer so, `Promises` say what the promise fixes.
+-- `Parts`, `Laws`, `Laid` and `Pieces` serve the proofs of calls that answer so, `Promises` say what the promise fixes.
+pub mod Parts
 pub mod Laws
 pub mod Laid
 pub mod Pieces

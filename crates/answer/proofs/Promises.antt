@@ -10,6 +10,7 @@ use lib.Dec.{ltb}
 use Rattle.answer.specs.declared.Answer.{Answer}
 use Rattle.answer.specs.Answers.{Result, Gives, answerOf, bytesOf, over}
 use Rattle.answer.specs.Answers.Result.{Good, Refused}
+use Rattle.answer.specs.Digits.{isDigit, isText, digitOf}
 use Rattle.answer.specs.Laid.{PutIf}
 
 -- ONE RESULT: two results of a call that its promise allows for one entry are one, answer and buffer
@@ -55,3 +56,13 @@ success (Good s) out r out′ h g z = cases (ltb (length out) (length s)) (g .an
 -- two results that the promise of `put` allows are one, place and buffer
 pub put-one : (out : List ℕ) (at : ℕ) (s : List ℕ) (r q : ℕ) (o o′ : List ℕ) → PutIf out at s r o → PutIf out at s q o′ → (r ≡ q) × (o ≡ o′)
 put-one out at s r q o o′ g h = (g .next ∙ sym (h .next), g .bytes ∙ sym (h .bytes))
+
+-- and so are two that the promises of the digit calls allow
+pub is-digit-one : (b : ℕ) (r s : Bool) → r ≡ isDigit b → s ≡ isDigit b → r ≡ s
+is-digit-one b r s e f = e ∙ sym f
+
+pub is-text-one : (b : ℕ) (r s : Bool) → r ≡ isText b → s ≡ isText b → r ≡ s
+is-text-one b r s e f = e ∙ sym f
+
+pub digit-of-one : (b r s : ℕ) → r ≡ digitOf b → s ≡ digitOf b → r ≡ s
+digit-of-one b r s e f = e ∙ sym f

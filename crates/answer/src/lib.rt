@@ -1,4 +1,6 @@
 // What every codec call answers, and the one way in which it writes to the caller's buffer.
+pub mod digits;
+
 ghost use mathlib.Core.Path.{_≡_};
 ghost use Prim.Native.Nat.{_+_, _≤_};
 ghost use lib.ListN.{length};

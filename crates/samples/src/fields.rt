@@ -57,7 +57,7 @@ fn digit(b: u8) -> usize {
 }
 
 // A number of one to five decimal digits.
-fn number(line: &[u8], at: usize) -> Field {
+pub fn number(line: &[u8], at: usize) -> Field {
     let from = after_space(line, at);
     let mut value = 0;
     let mut end = from;
@@ -92,6 +92,40 @@ pub fn room(line: &[u8], at: usize) -> Field
         return missing();
     }
     n
+}
+
+// A parameter's number, at most 65535.
+pub fn small(line: &[u8], at: usize) -> Field
+    ensures { λ r. ⌜ r .value ≤ 65535 ⌝ }
+{
+    let n = number(line, at);
+    if 65535 < n.value {
+        return missing();
+    }
+    n
+}
+
+// One digit, 0 or 1.
+pub fn flag(line: &[u8], at: usize) -> Field {
+    let from = after_space(line, at);
+    if from < line.len() {
+        match line[from] {
+            b'0' => {
+                return Field {
+                    value: 0,
+                    end: from + 1,
+                };
+            }
+            b'1' => {
+                return Field {
+                    value: 1,
+                    end: from + 1,
+                };
+            }
+            _ => {}
+        }
+    }
+    missing()
 }
 
 // The byte that the two digits at the start of `text` stand for, 256 where there are no two.

@@ -2,6 +2,7 @@
 ghost use Prim.Native.Nat.{_≤_};
 ghost use lib.ListN.{length};
 use answer::Answer;
+use objects::ObjectRead;
 
 const DIGITS: [u8; 16] = *b"0123456789ABCDEF";
 
@@ -85,6 +86,21 @@ pub fn answered(answer: Answer, out: &[u8]) {
     at = put_number(&mut text, at, answer.length as u64);
     at = put_byte(&mut text, at, b' ');
     at = put_buffer(&mut text, at, out);
+    at = put_byte(&mut text, at, b'\n');
+    io::write_all(1, &text[0..at]);
+}
+
+// The line of an object that was read: the refusal and the three lengths.
+pub fn object(read: ObjectRead) {
+    // Four numbers of at most twenty digits, three spaces and the line end.
+    let mut text = [0u8; 84];
+    let mut at = put_number(&mut text, 0, read.refusal as u64);
+    at = put_byte(&mut text, at, b' ');
+    at = put_number(&mut text, at, read.tag as u64);
+    at = put_byte(&mut text, at, b' ');
+    at = put_number(&mut text, at, read.header as u64);
+    at = put_byte(&mut text, at, b' ');
+    at = put_number(&mut text, at, read.whole as u64);
     at = put_byte(&mut text, at, b'\n');
     io::write_all(1, &text[0..at]);
 }

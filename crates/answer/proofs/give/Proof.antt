@@ -1,4 +1,4 @@
--- `answer::give` meets its contract: by the room. Assumes nothing.
+-- `answer::give` meets its contract: by the room.
 use native.Mathlib.Omega.{arith}
 use mathlib.Core.Path.{_≡_, sym, ap, _∙_}
 use lib.ListN.{length}

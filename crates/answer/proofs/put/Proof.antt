@@ -1,4 +1,4 @@
--- `answer::put` meets its contract: by the room that is left. Assumes nothing.
+-- `answer::put` meets its contract: by the room that is left.
 use native.Mathlib.Omega.{arith}
 use mathlib.Core.Path.{_≡_, sym, ap, _∙_}
 use lib.ListN.{length}

@@ -1,4 +1,4 @@
--- `crc16::step` meets its contract: a register of sixteen bits is the number of its bits. Assumes nothing.
+-- `crc16::step` meets its contract: a register of sixteen bits is the number of its bits.
 use Rattle.crc16.specs.Register.{stepped}
 use Rattle.crc16.proofs.Steps.{register-bits}
 use borrow.Author.Needs.{needs}

@@ -1,4 +1,4 @@
--- `packet::judge` meets its contract: the register has met the payload bytes that are done. Assumes nothing.
+-- `packet::judge` meets its contract: the register has met the payload bytes that are done.
 use Prim.Native.Nat.{ℕ, _+_, _≤_, _<_, _-_}
 use mathlib.Core.Path.{_≡_, refl, sym, _∙_, ap}
 use native.Mathlib.Omega.{arith}

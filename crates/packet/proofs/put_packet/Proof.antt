@@ -1,4 +1,4 @@
--- `packet::put_packet` meets its contract: SYN and the stuffed payload, and the ending after them. Assumes nothing.
+-- `packet::put_packet` meets its contract: SYN and the stuffed payload, and the ending after them.
 use native.Mathlib.Omega.{arith}
 use mathlib.Core.Path.{_≡_, sym, ap, _∙_}
 use mathlib.Core.List.{List, [], _∷_}

@@ -1,4 +1,4 @@
--- `packet::put_stuffed` meets its contract: SYN and the first i payload bytes with substitutions are laid over the start, and the register has met these bytes. Assumes nothing.
+-- `packet::put_stuffed` meets its contract: SYN and the first i payload bytes with substitutions are laid over the start, and the register has met these bytes.
 use Prim.Native.Nat.{ℕ, _+_, _≤_, _<_, _-_}
 use mathlib.Core.Path.{_≡_, refl, sym, _∙_, ap}
 use mathlib.Core.List.{List, [], _∷_, _++_}

@@ -1,4 +1,4 @@
--- `packet::read_body` meets its contract: by what the first walk tells. Assumes nothing.
+-- `packet::read_body` meets its contract: by what the first walk tells.
 use mathlib.Core.Path.{_≡_, refl, sym, ap, _∙_}
 use mathlib.Core.Bool.{true, false}
 use Prim.Native.Nat.{ℕ, _≤_}

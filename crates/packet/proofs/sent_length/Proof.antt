@@ -1,4 +1,4 @@
--- `packet::sent_length` meets its contract: by the three bytes that have a pair. Assumes nothing.
+-- `packet::sent_length` meets its contract: by the three bytes that have a pair.
 use mathlib.Core.Path.{_≡_, sym}
 use mathlib.Core.Bool.{true, false}
 use Rattle.packet.proofs.Stuffing.{sent-by}

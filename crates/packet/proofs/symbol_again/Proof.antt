@@ -1,4 +1,4 @@
--- `packet::symbol_again` meets its contract: by whether it is a pair. Assumes nothing.
+-- `packet::symbol_again` meets its contract: by whether it is a pair.
 use mathlib.Core.Path.{_≡_, refl, sym, _∙_, ap}
 use Prim.Native.Nat.{ℕ, _+_, _≤_, _<_}
 use native.Mathlib.Omega.{arith}

@@ -1,4 +1,4 @@
--- `packet::undo` meets its contract: what is done is laid over the start. Assumes nothing.
+-- `packet::undo` meets its contract: what is done is laid over the start.
 use Prim.Native.Nat.{ℕ, zero, suc, _+_, _≤_, _<_, _-_}
 use mathlib.Core.Path.{_≡_, refl, sym, _∙_, ap}
 use mathlib.Core.List.{List}

@@ -1,0 +1,6 @@
+-- In the order of reading. `Steps` serves the private functions alone: no promise cites it.
+pub mod Tag
+pub mod LengthForm
+pub mod Object
+pub mod Pick
+pub mod Steps

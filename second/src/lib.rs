@@ -15,6 +15,7 @@
 pub mod answer;
 pub mod by_hand;
 pub mod check;
+pub mod digits;
 pub mod hex;
 pub mod material;
 pub mod message;
@@ -25,5 +26,6 @@ pub mod pieces;
 pub mod random;
 pub mod script;
 pub mod stored;
+pub mod table;
 pub mod tag;
 pub mod vectors;

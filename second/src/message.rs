@@ -7,7 +7,7 @@
 use crate::answer::Outcome;
 use crate::packet::{LARGEST_PAYLOAD, PAYLOAD_OVER};
 use crate::parameter::{self, Parameter};
-use crate::pieces;
+use crate::{digits, pieces};
 
 /// A message is a packet's payload, so one limit is both (the scope paper,
 /// section Packet).
@@ -103,14 +103,10 @@ fn judge_head(head: &[u8], response: bool) -> Result<(), u8> {
 
 /// What the block at the start holds, and what follows the block.
 fn first_block(bytes: &[u8]) -> Option<(&[u8], &[u8])> {
-    let (digits, after) = bytes.split_at_checked(DIGITS)?;
-    if !digits.iter().all(u8::is_ascii_digit) {
-        return None;
-    }
-    let length = std::str::from_utf8(digits).ok()?.parse().ok()?;
-    match length {
+    let (length, after) = bytes.split_at_checked(DIGITS)?;
+    match digits::number(length)? {
         0 => None,
-        _ => after.split_at_checked(length),
+        length => after.split_at_checked(length),
     }
 }
 

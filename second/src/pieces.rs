@@ -1,11 +1,12 @@
-//! Bytes that are one piece after another: blocks, parameters, tags, objects.
+//! Bytes that are one piece after another: blocks, parameters, tags, objects,
+//! records.
 
 /// Takes pieces off the front until nothing is left, or until one cannot be
 /// taken: its refusal is then the answer.
-pub fn all<'a, T>(
+pub fn all<'a, T, Refusal>(
     mut rest: &'a [u8],
-    first: impl Fn(&'a [u8]) -> Result<(T, &'a [u8]), u8>,
-) -> Result<Vec<T>, u8> {
+    first: impl Fn(&'a [u8]) -> Result<(T, &'a [u8]), Refusal>,
+) -> Result<Vec<T>, Refusal> {
     let mut pieces = Vec::new();
     while !rest.is_empty() {
         let (piece, after) = first(rest)?;

@@ -19,7 +19,7 @@
 
 use crate::answer::{give, Outcome};
 use crate::object::Lengths;
-use crate::{hex, message, object, packet};
+use crate::{digits, hex, message, object, packet};
 
 /// No buffer and no input is longer. The longest packet, all pairs, takes about
 /// half of it, which leaves ample room for what must be refused.
@@ -113,13 +113,10 @@ fn flag(digit: &[u8]) -> Option<bool> {
 }
 
 fn decimal(digits: &[u8], largest: usize) -> Option<usize> {
-    if !(1..=5).contains(&digits.len()) || !digits.iter().all(u8::is_ascii_digit) {
+    if !(1..=5).contains(&digits.len()) {
         return None;
     }
-    let number = digits
-        .iter()
-        .fold(0, |number, digit| number * 10 + usize::from(digit - b'0'));
-    (number <= largest).then_some(number)
+    digits::number(digits).filter(|number| *number <= largest)
 }
 
 fn bytes(digits: &[u8]) -> Option<Vec<u8>> {

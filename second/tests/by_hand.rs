@@ -1,8 +1,14 @@
 //! The hand-written calls, the measure of speed, answer as the others do.
 
 use second::answer::{give, Answer, Outcome};
+use second::by_hand::table::Extent;
+use second::material::table::{block_of, random_blocks, random_load, random_network};
 use second::material::{self, every_damage, every_string};
 use second::random::Random;
+use second::table::block::read_block;
+use second::table::load::{close, Load};
+use second::table::record::Record;
+use second::table::store::{sound, store_of, used_by, SIZE};
 use second::{by_hand, check, message, object, packet, script};
 
 const SEED: u64 = 0x5345_434F_4E44;
@@ -191,5 +197,116 @@ fn picks_are_alike() {
         assert_picked_alike(&tags, &damaged, 4096);
         let damaged = material::random_damage(&mut random, &tags, &telling);
         assert_picked_alike(&damaged, &objects, 4096);
+    }
+}
+
+/// A store of the hand-written calls.
+struct Store {
+    bytes: Vec<u8>,
+    extent: Extent,
+}
+
+impl Store {
+    fn empty() -> Self {
+        Store {
+            bytes: vec![0; SIZE],
+            extent: Extent::default(),
+        }
+    }
+
+    fn assert_holds(&self, records: &[Record], network: u8) {
+        let extent = Extent {
+            used: used_by(records),
+            records: records.len(),
+        };
+        assert_eq!(self.extent, extent);
+        assert!(self.bytes == store_of(records), "the stores differ");
+        assert!(by_hand::table::check_store(&self.bytes, extent, network));
+    }
+}
+
+/// Whether the load is over.
+fn assert_added_alike(load: &mut Load, store: &mut Store, over: bool, block: &[u8]) -> bool {
+    assert!(by_hand::table::block_is_good(block));
+    load.add(read_block(block).expect("a good block"));
+    let Store { bytes, extent } = store;
+    let over = by_hand::table::add_block(bytes, extent, over, load.network, block);
+    assert_eq!(over, load.over);
+    store.assert_holds(&load.kept, load.network);
+    over
+}
+
+#[test]
+fn loads_are_added_and_closed_alike() {
+    let mut random = Random::new(SEED);
+    let mut live = Vec::new();
+    let (mut live_store, mut loading_store) = (Store::empty(), Store::empty());
+    let mut closed = [0, 0];
+    for _ in 0..400 {
+        let mut load = Load::open(random_network(&mut random));
+        let network = load.network;
+        let records = random_load(&mut random, network);
+        let mut over = false;
+        for block in random_blocks(&mut random, &records) {
+            over = assert_added_alike(&mut load, &mut loading_store, over, &block);
+        }
+        let done = close(&mut live, load);
+        let by_hand = by_hand::table::close_load(
+            &mut live_store.bytes,
+            &mut loading_store.bytes,
+            &mut live_store.extent,
+            loading_store.extent,
+            over,
+            network,
+        );
+        loading_store.extent = Extent::default();
+        assert_eq!(by_hand, done);
+        live_store.assert_holds(&live, 0);
+        loading_store.assert_holds(&[], network);
+        closed[usize::from(done)] += 1;
+    }
+    assert!(closed.iter().all(|count| *count > 20), "{closed:?}");
+}
+
+#[test]
+fn damaged_blocks_are_judged_alike() {
+    let assert_judged = |block: &[u8]| {
+        let good = by_hand::table::block_is_good(block);
+        assert_eq!(good, read_block(block).is_some(), "{block:?}");
+    };
+    every_damage(b"02010103AZab008299  ", assert_judged);
+    let mut random = Random::new(SEED);
+    for _ in 0..1000 {
+        let mut records = random_load(&mut random, 9);
+        records.truncate(3);
+        let block = block_of(&records);
+        let telling = material::table::TELLING;
+        assert_judged(&material::random_damage(&mut random, &block, &telling));
+    }
+}
+
+#[test]
+fn damaged_stores_are_judged_alike() {
+    let mut judged = [0, 0];
+    for (network, number) in [(0, 3), (7, 3), (8, 3), (7, 2)] {
+        every_damage(b"010107AZab008207  009307~~c", |damaged| {
+            let mut store = damaged.to_vec();
+            store.resize(64, 0);
+            for used in [27, damaged.len()] {
+                let records = number;
+                let by_hand =
+                    by_hand::table::check_store(&store, Extent { used, records }, network);
+                assert_eq!(by_hand, sound(&store, used, number, network), "{damaged:?}");
+                judged[usize::from(by_hand)] += 1;
+            }
+        });
+    }
+    assert!(judged.iter().all(|count| *count > 1000), "{judged:?}");
+    for numbers in [usize::MAX, SIZE + 1, 513] {
+        let extent = Extent {
+            used: 0,
+            records: numbers,
+        };
+        assert!(!by_hand::table::check_store(&vec![0; SIZE], extent, 0));
     }
 }

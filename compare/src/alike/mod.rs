@@ -7,6 +7,7 @@ use second::script::{fresh_buffer, shown};
 pub mod message;
 pub mod object;
 pub mod packet;
+pub mod table;
 
 /// Bytes behind the lent part. The scope paper, section Numbered refusals of
 /// calls, leaves no call any say over them.

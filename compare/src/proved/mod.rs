@@ -10,6 +10,7 @@ use second::answer::Answer;
 pub mod message;
 pub mod object;
 pub mod packet;
+pub mod table;
 
 /// The answer as the library hands it back.
 #[repr(C)]

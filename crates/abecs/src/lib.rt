@@ -2,9 +2,12 @@
 use answer::Answer;
 use answer::refused;
 use objects::ObjectRead;
+use tables::Extent;
+use tables::Load;
 ghost use mathlib.Core.Path.{_≡_};
 ghost use mathlib.Core.Bool.{not};
 ghost use lib.Dec.{eqb};
+ghost use lib.ListN.{length};
 ghost use Rattle.answer.specs.Answers.{Gives};
 ghost use Rattle.crc16.specs.Crc.{check};
 ghost use Rattle.packet.specs.Packet.{writePacket, readPacket};
@@ -12,6 +15,9 @@ ghost use Rattle.message.specs.Finding.{find};
 ghost use Rattle.message.specs.Message.{readMessage, writeMessage};
 ghost use Rattle.objects.specs.Object.{writeObject, readOf};
 ghost use Rattle.objects.specs.Pick.{pick};
+ghost use Rattle.tables.specs.Record.{goodBlock};
+ghost use Rattle.tables.specs.Store.{zeros, soundStore};
+ghost use Rattle.abecs.specs.Flags.{flagOf, loadOf, extentOf, AddsOf, ClosesOf, versionsOf};
 
 // ---- packets
 
@@ -90,4 +96,118 @@ pub extern "C" fn abecs_pick(tags: &[u8], list: &[u8], out: &mut [u8]) -> Answer
     ensures { λ r. ⌜ Gives (pick (now (tags .entry)) (now (list .entry))) (now (out .entry)) r (now (out .exit)) ⌝ }
 {
     objects::pick(tags, list, out)
+}
+
+// ---- tables: a flag is 0 or 1; what is handed in as a flag counts as 1 unless it is 0
+
+// The extent of a load's store, with the flag as a byte.
+#[repr(C)]
+pub struct LoadOf {
+    pub used: usize,
+    pub records: usize,
+    pub over: u8,
+}
+
+// What closing a load answers, with the flag as a byte.
+#[repr(C)]
+pub struct ClosedOf {
+    pub done: u8,
+    pub used: usize,
+    pub records: usize,
+}
+
+// A flag as a byte.
+fn flag(b: bool) -> u8
+    ensures { λ r. ⌜ r ≡ flagOf b ⌝ }
+{
+    if b { 1 } else { 0 }
+}
+
+#[no_mangle]
+pub extern "C" fn abecs_check_store(store: &[u8], used: usize, records: usize, network: u8) -> u8
+    ensures { λ r. ⌜ r ≡ flagOf (soundStore network used records (now (store .entry))) ⌝ }
+{
+    flag(tables::check_store(store, used, records, network))
+}
+
+#[no_mangle]
+pub extern "C" fn abecs_block_good(block: &[u8]) -> u8
+    ensures { λ r. ⌜ r ≡ flagOf (goodBlock (now (block .entry))) ⌝ }
+{
+    flag(tables::block_good(block))
+}
+
+#[no_mangle]
+pub extern "C" fn abecs_add_block(
+    store: &mut [u8],
+    used: usize,
+    records: usize,
+    over: u8,
+    network: u8,
+    block: &[u8],
+) -> LoadOf
+    ensures { λ r. ⌜ AddsOf network (loadOf used records over) (now (block .entry)) (now (store .entry)) r (now (store .exit)) ⌝ }
+{
+    let load = Load {
+        used,
+        records,
+        over: over != 0,
+    };
+    let grown = tables::add_block(store, load, network, block);
+    LoadOf {
+        used: grown.used,
+        records: grown.records,
+        over: flag(grown.over),
+    }
+}
+
+// The live store's extent comes before the load's.
+#[no_mangle]
+pub extern "C" fn abecs_close_load(
+    live: &mut [u8],
+    loading: &mut [u8],
+    used: usize,
+    records: usize,
+    loaded: usize,
+    added: usize,
+    over: u8,
+    network: u8,
+) -> ClosedOf
+    ensures { λ r. ⌜ ClosesOf network (extentOf used records) (loadOf loaded added over) (now (live .entry)) (now (loading .entry)) r (now (live .exit)) (now (loading .exit)) ⌝ }
+{
+    let extent = Extent { used, records };
+    let load = Load {
+        used: loaded,
+        records: added,
+        over: over != 0,
+    };
+    let closed = tables::close_load(live, loading, extent, load, network);
+    ClosedOf {
+        done: flag(closed.done),
+        used: closed.used,
+        records: closed.records,
+    }
+}
+
+#[no_mangle]
+pub extern "C" fn abecs_zero_store(store: &mut [u8])
+    ensures { λ _. ⌜ now (store .exit) ≡ zeros (length (now (store .entry))) ⌝ }
+{
+    tables::zero_store(store)
+}
+
+// No array crosses by value, so the versions are brought up to date where they stand; of other sizes than 1,000 and ten bytes nothing changes.
+#[no_mangle]
+pub extern "C" fn abecs_versions_after(versions: &mut [u8], network: u8, version: &[u8])
+    ensures { λ _. ⌜ now (versions .exit) ≡ versionsOf network (now (version .entry)) (now (versions .entry)) ⌝ }
+{
+    if !((versions.len() == 1000) & (version.len() == 10)) {
+        return;
+    }
+    let mut all = [0u8; 1000];
+    let mut ten = [0u8; 10];
+    answer::put(&mut all, 0, versions);
+    answer::put(&mut ten, 0, version);
+    let next = tables::versions_after(all, network, ten);
+    answer::put(versions, 0, &next);
 }

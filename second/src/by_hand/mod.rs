@@ -6,3 +6,4 @@
 pub mod message;
 pub mod object;
 pub mod packet;
+pub mod table;

@@ -6,6 +6,7 @@ use crate::random::Random;
 pub mod message;
 pub mod object;
 pub mod packet;
+pub mod table;
 
 /// All 256 byte values.
 pub fn every_byte() -> Vec<u8> {

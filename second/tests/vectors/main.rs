@@ -3,6 +3,7 @@
 mod messages;
 mod objects;
 mod packets;
+mod tables;
 
 use second::vectors::{Entry, Vectors};
 use std::collections::BTreeMap;

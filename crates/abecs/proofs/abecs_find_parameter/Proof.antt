@@ -1,9 +1,6 @@
 -- `abecs::abecs_find_parameter` meets its contract: by what `find_refusal` tells.
-use mathlib.Core.Path.{_≡_, sym, ap, _∙_, subst}
+use mathlib.Core.Path.{_≡_, sym, ap, _∙_}
 use mathlib.Core.List.{List}
-use Prim.Native.Nat.{ℕ}
-use denote.Ref.{now}
-use Rattle.answer.specs.Answers.{Result, Gives}
 use Rattle.answer.specs.Answers.Result.{Good}
 use Rattle.answer.proofs.Laws.{gives-refused, gives-as}
 use Rattle.message.specs.Finding.{find}

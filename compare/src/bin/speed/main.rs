@@ -6,6 +6,8 @@
 //! either side; that is part of what is measured.
 
 #![deny(warnings)]
+mod tables;
+mod timing;
 
 use compare::proved;
 use second::answer::Answer;
@@ -19,8 +21,6 @@ use std::time::Instant;
 /// A call on its input, into the lent buffer.
 type Call<'a> = &'a dyn Fn(&mut [u8]) -> Answer;
 
-/// Rounds of each side in turn: a slow spell of the machine falls on both.
-const ROUNDS: usize = 301;
 const CALLS_A_ROUND: u32 = 50;
 
 /// The random payload is the same in every run, so that runs can be compared.
@@ -31,12 +31,14 @@ const COMMAND: u8 = 0;
 
 fn main() {
     println!("Median ns a call. Both sides use the same output buffer, not cleared");
-    println!("between calls. Second is its code written by hand, without heap.");
+    println!("between calls; the table calls start from the same stores each time, which");
+    println!("is not timed. Second is its code written by hand, without heap.");
     println!();
     println!("call            input                    proved    second  proved/second");
     packets();
     messages();
     objects();
+    tables::rows();
 }
 
 fn packets() {
@@ -164,23 +166,9 @@ fn walk(list: &[u8], whole: impl Fn(&[u8]) -> Result<usize, u8>) -> Answer {
 }
 
 fn row(call: &str, input: &str, sides: [Call; 2]) {
-    let [proved, second] = medians(sides);
-    let ratio = proved / second;
-    println!("{call:<15} {input:<24} {proved:>6.0} {second:>9.0} {ratio:>14.2}");
-}
-
-fn medians(sides: [Call; 2]) -> [f64; 2] {
     let mut out = vec![0; 2 * LARGEST_PAYLOAD + 4];
-    let mut times = [Vec::new(), Vec::new()];
-    for _ in 0..ROUNDS {
-        for (side, times) in sides.iter().zip(&mut times) {
-            times.push(time_a_call(*side, &mut out));
-        }
-    }
-    times.map(|mut times| {
-        times.sort_by(f64::total_cmp);
-        times[ROUNDS / 2]
-    })
+    let medians = timing::medians(|side| time_a_call(sides[side], &mut out));
+    timing::print_row(call, input, medians);
 }
 
 /// The average over one round's calls. A refused call would be measured for

@@ -1,0 +1,2 @@
+-- `Promises` say what the calls are held to and what every byte keeps.
+pub mod Promises

@@ -159,6 +159,8 @@ fn proved_add(stores: &mut Stores, blocks: &[Vec<u8>]) -> bool {
     load.over == 0
 }
 
+/// Judges each block before it is added, as the proved call does: a bad one adds
+/// nothing.
 fn by_hand_add(stores: &mut Stores, blocks: &[Vec<u8>]) -> bool {
     let Stores {
         loading,
@@ -167,7 +169,9 @@ fn by_hand_add(stores: &mut Stores, blocks: &[Vec<u8>]) -> bool {
         ..
     } = stores;
     for block in blocks {
-        *over = by_hand::add_block(loading, load, *over, LOADED, block);
+        if by_hand::block_is_good(block) {
+            *over = by_hand::add_block(loading, load, *over, LOADED, block);
+        }
     }
     !*over
 }

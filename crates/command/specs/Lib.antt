@@ -1,0 +1,3 @@
+-- In the order of reading.
+pub mod Texts
+pub mod Command

@@ -2,12 +2,13 @@
 
 use super::{of_lengths, padded, ROUNDS};
 use compare::alike::table as alike;
+use compare::proved::table as proved;
 use compare::seed;
 use second::material::table::{random_lengths, random_load, random_network};
 use second::material::table::{record_of, KINDS, TELLING};
 use second::material::{every_damage, random_damage};
 use second::random::Random;
-use second::table::store::SIZE;
+use second::table::store::{sound, SIZE};
 
 /// Three records of network 7, one of each kind.
 const SMALL_STORE: &[u8] = b"010107AZab008207 ~009307~ c";
@@ -91,8 +92,7 @@ fn every_network_for_a_small_store() {
 }
 
 /// A store that is too short is for refusal 2. Judged here is whether the used
-/// part lies in it and is sound. In a longer one the used part could pass 32,768
-/// bytes; that too is for refusal 2, and not asked here.
+/// part lies in it and is sound. Longer ones are below.
 #[test]
 fn short_stores() {
     let store = padded(SMALL_STORE);
@@ -108,6 +108,22 @@ fn short_stores() {
         }
     }
     alike::check_store(&[], 0, 0, 0);
+}
+
+/// THE ONE KNOWN DIFFERENCE. The scope paper's limit of 32,768 bytes is a rule of
+/// the store for the second program; the proved call takes the store's own length
+/// for the limit. They part only where a store is longer than it may be, which
+/// refusal 2 catches before either is asked.
+#[test]
+fn longer_stores_are_judged_by_their_own_length() {
+    let records: Vec<Vec<u8>> = (0..33).map(|n| record_of(b'1', 7, n, 997)).collect();
+    let used = records.concat();
+    assert!(used.len() > SIZE);
+    let store = [&used[..], &[0; 8]].concat();
+    assert_eq!(proved::check_store(&store, used.len(), 33, 7), 1);
+    assert!(!sound(&store, used.len(), 33, 7));
+    let within = [SMALL_STORE, &[0; SIZE]].concat();
+    assert!(alike::check_store(&within, SMALL_STORE.len(), 3, 7));
 }
 
 /// One record more than there may be, in a store that has the room for it.

@@ -7,7 +7,9 @@
 //! that one slip is unlikely to be made twice.
 //!
 //! `by_hand` is the exception: it works as the proved code has to, without heap
-//! and one bit or byte at a time, and is there to measure speed against.
+//! and one bit or byte at a time, and is there to measure speed against. So is
+//! the device, which judges its lent stores in every call and works on them with
+//! what is there; its tests hold it against a model that does not.
 
 #![deny(warnings)]
 #![forbid(unsafe_code)]
@@ -15,8 +17,10 @@
 pub mod answer;
 pub mod by_hand;
 pub mod check;
+pub mod device;
 pub mod digits;
 pub mod hex;
+pub mod line;
 pub mod material;
 pub mod message;
 pub mod object;

@@ -1,16 +1,18 @@
 //! `second samples` runs a samples script from standard input; `second script
-//! VECTORS_DIR` makes the stored script from the folder of vectors files.
+//! VECTORS_DIR` makes the stored script from the folder of vectors files; `second
+//! line` is the device's end of a line.
 
 #![deny(warnings)]
 
 use second::vectors::Vectors;
-use second::{script, stored};
+use second::{line, script, stored};
 use std::io::{self, Read, Write};
 use std::path::Path;
 use std::process::ExitCode;
 
 const USAGE: &str = "usage: second samples < SCRIPT > LOG
-       second script VECTORS_DIR > SCRIPT";
+       second script VECTORS_DIR > SCRIPT
+       second line < TRAFFIC > REPLIES";
 
 fn main() -> ExitCode {
     let arguments: Vec<String> = std::env::args().skip(1).collect();
@@ -18,6 +20,7 @@ fn main() -> ExitCode {
     let output = match arguments[..] {
         ["samples"] => samples(),
         ["script", folder] => stored_script(folder),
+        ["line"] => on_the_line(),
         _ => {
             eprintln!("{USAGE}");
             return ExitCode::from(2);
@@ -42,4 +45,10 @@ fn samples() -> Result<Vec<u8>, String> {
 fn stored_script(folder: &str) -> Result<Vec<u8>, String> {
     let vectors = Vectors::read(Path::new(folder))?;
     Ok(stored::script(&vectors)?.into_bytes())
+}
+
+/// All replies have been written when it returns.
+fn on_the_line() -> Result<Vec<u8>, String> {
+    line::program().map_err(|e| e.to_string())?;
+    Ok(Vec::new())
 }

@@ -1,13 +1,19 @@
-//! The program itself: its two uses, and the stored script through both.
+//! The program itself: its three uses, and the stored script through two of
+//! them.
 
 use second::script::shown;
 use second::vectors::Vectors;
 use std::collections::BTreeMap;
-use std::io::Write;
+use std::io::{Read, Write};
 use std::path::Path;
 use std::process::{Command, Output, Stdio};
 
 const VECTORS: &str = concat!(env!("CARGO_MANIFEST_DIR"), "/../vectors");
+
+const OPN: [u8; 7] = [0x16, 0x4F, 0x50, 0x4E, 0x17, 0xA8, 0xA9];
+const OPENED: [u8; 11] = [
+    0x06, 0x16, 0x4F, 0x50, 0x4E, 0x30, 0x30, 0x30, 0x17, 0x77, 0x5E,
+];
 
 fn run(arguments: &[&str], input: &[u8]) -> Output {
     let mut program = Command::new(env!("CARGO_BIN_EXE_second"))
@@ -51,7 +57,13 @@ fn samples_answers_the_script_on_its_input() {
 
 #[test]
 fn other_uses_are_refused() {
-    for arguments in [&[][..], &["script"], &["other"], &["samples", "more"]] {
+    for arguments in [
+        &[][..],
+        &["script"],
+        &["other"],
+        &["samples", "more"],
+        &["line", "more"],
+    ] {
         let output = run(arguments, b"");
         assert_eq!(output.status.code(), Some(2), "{arguments:?}");
         assert!(output.stdout.is_empty(), "{arguments:?}");
@@ -69,6 +81,47 @@ fn a_vectors_folder_that_is_not_there_is_a_failure() {
         assert!(output.stdout.is_empty(), "{folder}");
         assert!(output.stderr.starts_with(b"second: "), "{folder}");
     }
+}
+
+/// The scope paper, section Sample line traffic.
+#[test]
+fn line_answers_opn_and_ends_with_its_input() {
+    let output = run(&["line"], &OPN);
+    assert_eq!(output.status.code(), Some(0));
+    assert_eq!(output.stdout, OPENED);
+    assert!(output.stderr.is_empty());
+    assert!(run(&["line"], b"").stdout.is_empty());
+    assert!(run(&["line"], &OPN[..6]).stdout.is_empty());
+}
+
+/// The input stays open meanwhile: a program that waits for more of it before it
+/// replies would never be done here.
+#[test]
+fn line_answers_before_its_input_ends() {
+    let mut program = Command::new(env!("CARGO_BIN_EXE_second"))
+        .arg("line")
+        .stdin(Stdio::piped())
+        .stdout(Stdio::piped())
+        .spawn()
+        .expect("the program starts");
+    let mut stdin = program.stdin.take().expect("its input is a pipe");
+    let mut stdout = program.stdout.take().expect("its output is a pipe");
+    for (sent, replied) in [
+        (&OPN[..], &OPENED[..]),
+        (&[0x15], &OPENED[1..]),
+        (&[0x16, 0x17, 0x00, 0x00], &[0x15]),
+        (&[0x18], &[0x04]),
+    ] {
+        stdin.write_all(sent).expect("the program reads");
+        let mut reply = vec![0; replied.len()];
+        stdout.read_exact(&mut reply).expect("the program replies");
+        assert_eq!(reply, replied);
+    }
+    drop(stdin);
+    let mut rest = Vec::new();
+    stdout.read_to_end(&mut rest).expect("its output ends");
+    assert!(rest.is_empty());
+    assert!(program.wait().expect("the program ends").success());
 }
 
 /// Every printed or computed packet under its own name, and all eight packets

@@ -1,8 +1,9 @@
 //! Judging blocks.
 
-use super::{of_lengths, padded, ROUNDS, SMALL_BLOCK};
+use super::{padded, ROUNDS, SMALL_BLOCK};
 use compare::alike::table as alike;
 use compare::seed;
+use second::material::limits::of_lengths;
 use second::material::table::{block_of, random_blocks, random_load, random_network};
 use second::material::table::{record_of, TELLING};
 use second::material::{every_byte, every_damage, every_string, random_damage};

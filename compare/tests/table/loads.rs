@@ -1,13 +1,14 @@
 //! Loads: opened, added to block by block, closed or dropped.
 
-use super::{of_lengths, SMALL_BLOCK};
+use super::SMALL_BLOCK;
 use compare::alike::table::{self as alike, Tables};
 use compare::seed;
 use second::material::every_damage;
+use second::material::limits::{about_a_limit, of_lengths, random_loads};
 use second::material::table::{block_of, full_blocks, random_blocks, random_lengths};
-use second::material::table::{random_load, random_network, random_skipped, record_of};
+use second::material::table::{random_load, random_network, record_of};
 use second::random::Random;
-use second::table::store::{MOST_RECORDS, SIZE};
+use second::table::store::SIZE;
 
 const LOADS: usize = 400;
 const FULL_SETS: usize = 100;
@@ -19,13 +20,6 @@ fn load(tables: &mut Tables, network: u8, blocks: &[Vec<u8>]) -> bool {
         tables.add(block);
     }
     tables.close()
-}
-
-/// Puts each of these at a random place among the others, whose order stays.
-fn strew(random: &mut Random, among: &mut Vec<Vec<u8>>, these: Vec<Vec<u8>>) {
-    for one in these {
-        among.insert(random.below(among.len() + 1), one);
-    }
 }
 
 /// Records of every network to loads for every network.
@@ -76,8 +70,8 @@ fn equal_records_are_all_kept() {
 
 /// One load in eight is dropped for the next.
 #[test]
-fn random_loads() {
-    let mut random = Random::new(seed::told("random_loads"));
+fn loads_at_random() {
+    let mut random = Random::new(seed::told("loads_at_random"));
     let mut tables = Tables::fresh();
     let mut closed = [0, 0];
     for _ in 0..LOADS {
@@ -94,50 +88,18 @@ fn random_loads() {
     assert!(closed.iter().all(|count| *count > 0), "{closed:?}");
 }
 
-/// How many records a set has, and how many bytes: at a limit, one under it or
-/// one past it, by the records, by the bytes or by both.
-fn about_a_limit(random: &mut Random) -> (usize, usize) {
-    let records = MOST_RECORDS - 1 + random.below(3);
-    let bytes = SIZE - 1 + random.below(3);
-    match random.below(3) {
-        0 => (records, records * 8 + random.below(SIZE - records * 8)),
-        1 => (33 + random.below(MOST_RECORDS - 33), bytes),
-        _ => (records, bytes),
-    }
-}
-
-/// Live records of network 7, between which records of network 8 give way to a
-/// load. What stays and the load come to a limit together, and mostly not one
-/// without the other.
+/// What stays of the live records and a load come to a limit together.
 #[test]
 fn sets_about_both_limits() {
     let mut random = Random::new(seed::told("sets_about_both_limits"));
     let mut tables = Tables::fresh();
     let mut closed = [0, 0];
     for _ in 0..FULL_SETS {
-        let (records, bytes) = about_a_limit(&mut random);
-        let lengths = random_lengths(&mut random, records, bytes);
-        let staying = match random.below(4) {
-            0 => 0,
-            _ => random.below(records),
-        };
-        let (staying, new) = lengths.split_at(staying);
-        let room = (SIZE - staying.iter().sum::<usize>()) / 8;
-        let way = random.below(room.min(MOST_RECORDS - staying.len()) + 1);
-        let mut live = of_lengths(&mut random, 7, staying);
-        let giving_way = of_lengths(&mut random, 8, &vec![8; way]);
-        strew(&mut random, &mut live, giving_way);
-        assert!(load(&mut tables, 0, &full_blocks(&live)));
-        let mut new = of_lengths(&mut random, 8, new);
-        let skipped = random.below(20);
-        let skipped = (0..skipped)
-            .map(|_| random_skipped(&mut random, 8))
-            .collect();
-        strew(&mut random, &mut new, skipped);
-        let within = records <= 512 && bytes <= 32_768;
-        let blocks = random_blocks(&mut random, &new);
-        assert_eq!(load(&mut tables, 8, &blocks), within, "{records} {bytes}");
-        closed[usize::from(within)] += 1;
+        let loads = random_loads(&mut random);
+        assert!(load(&mut tables, 0, &full_blocks(&loads.live)));
+        let blocks = random_blocks(&mut random, &loads.new);
+        assert_eq!(load(&mut tables, loads.network, &blocks), loads.within);
+        closed[usize::from(loads.within)] += 1;
     }
     assert!(closed.iter().all(|count| *count > 0), "{closed:?}");
 }

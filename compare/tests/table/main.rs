@@ -6,8 +6,6 @@ mod loads;
 mod stores;
 mod versions;
 
-use second::material::table::{random_record, KINDS};
-use second::random::Random;
 use second::table::store::SIZE;
 
 /// Two records, the second without free bytes.
@@ -21,13 +19,4 @@ fn padded(used: &[u8]) -> Vec<u8> {
     let mut store = used.to_vec();
     store.resize(SIZE, 0);
     store
-}
-
-/// Records of random kinds and of these lengths.
-fn of_lengths(random: &mut Random, network: u8, lengths: &[usize]) -> Vec<Vec<u8>> {
-    let record = |length: &usize| {
-        let kind = random.pick(&KINDS);
-        random_record(random, kind, network, *length)
-    };
-    lengths.iter().map(record).collect()
 }

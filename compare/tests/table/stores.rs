@@ -1,9 +1,10 @@
 //! Judging stores.
 
-use super::{of_lengths, padded, ROUNDS};
+use super::{padded, ROUNDS};
 use compare::alike::table as alike;
 use compare::proved::table as proved;
 use compare::seed;
+use second::material::limits::of_lengths;
 use second::material::table::{random_lengths, random_load, random_network};
 use second::material::table::{record_of, KINDS, TELLING};
 use second::material::{every_damage, random_damage};

@@ -1,5 +1,6 @@
--- The public call is promised for every payload; small cases of the definition, by computation.
+-- The public calls are promised for every payload; small cases of the definition, by computation.
 use mathlib.Core.Path.{_≡_, refl, sym, _∙_}
+use mathlib.Core.Bool.{Bool}
 use mathlib.Core.List.{List, [], _∷_, _++_}
 use Prim.Native.Nat.{ℕ}
 use Rattle.answer.specs.Pieces.{piecesFrom, restFrom}
@@ -12,6 +13,13 @@ use Rattle.command.specs.Command.{gtsGood, tliGood, tlrGood, commandOf}
 -- ONE RESULT: two results that the promise of `command_of` allows are one
 pub command-of-one : (payload : List ℕ) (r s : Command) → r ≡ commandOf payload → s ≡ commandOf payload → r ≡ s
 command-of-one payload r s e f = e ∙ sym f
+
+-- and so are two of `starts_with` and of `all_text`
+pub starts-with-one : (p s : List ℕ) (r t : Bool) → r ≡ starts s p → t ≡ starts s p → r ≡ t
+starts-with-one p s r t e f = e ∙ sym f
+
+pub all-text-one : (s : List ℕ) (r t : Bool) → r ≡ allText s → t ≡ allText s → r ≡ t
+all-text-one s r t e f = e ∙ sym f
 
 pub record CommandSamples : Type 0 where
   pub open-line : commandOf (ascii "OPN") ≡ Opn

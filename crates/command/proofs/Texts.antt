@@ -45,6 +45,11 @@ module _ (s : List ℕ) (i : ℕ) (h : i < length s) where
   unfolding allText
   text-by t e = rw (drop-cons s i 0 h, add-one, e) refl
 
+  -- the same with what was found before it
+  pub text-more : (good : Bool) → (good && allText (drop i s)) ≡ ((good && isText (getD s i 0)) && allText (drop (i + 1) s))
+  text-more true = text-by (isText (getD s i 0)) refl
+  text-more false = refl
+
 pub text-done : (s : List ℕ) (i : ℕ) → length s ≤ i → allText (drop i s) ≡ true
 unfolding allText
 text-done s i h = simp (drop-of-length-le s {i = i} h)

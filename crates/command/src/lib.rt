@@ -25,7 +25,7 @@ pub enum Command {
 }
 
 // Whether `p` starts with `s`.
-fn starts_with(p: &[u8], s: &[u8]) -> bool
+pub fn starts_with(p: &[u8], s: &[u8]) -> bool
     ensures { λ r. ⌜ r ≡ starts (now (s .entry)) (now (p .entry)) ⌝ }
 {
     if p.len() < s.len() {
@@ -41,18 +41,17 @@ fn starts_with(p: &[u8], s: &[u8]) -> bool
     true
 }
 
-// Whether each byte is one of a text.
-fn all_text(s: &[u8]) -> bool
+// Whether each byte is one of a text. No byte ends the walk, so that many are taken at a time.
+pub fn all_text(s: &[u8]) -> bool
     ensures { λ r. ⌜ r ≡ allText (now (s .entry)) ⌝ }
 {
+    let mut good = true;
     let mut i = 0;
     while i < s.len() {
-        if !is_text(s[i]) {
-            return false;
-        }
+        good = good & is_text(s[i]);
         i += 1;
     }
-    true
+    good
 }
 
 // Whether a network stands at place 6.

@@ -3,12 +3,12 @@ use mathlib.Core.Path.{_≡_, sym, _∙_}
 use mathlib.Core.Bool.{Bool}
 use mathlib.Core.List.{List}
 use Prim.Native.Nat.{ℕ}
-use lib.ListN.{length}
+use lib.ListN.{length, drop}
 use Rattle.tables.specs.declared.Extent.{Extent}
 use Rattle.tables.specs.declared.Load.{Load}
 use Rattle.tables.specs.declared.Closed.{Closed}
 use Rattle.tables.specs.Record.{goodBlock}
-use Rattle.tables.specs.Store.{zeros, soundStore}
+use Rattle.tables.specs.Store.{zeros, allZero, soundStore}
 use Rattle.tables.specs.Loading.{Adds}
 use Rattle.tables.specs.Closing.{Closes, newVersions}
 
@@ -30,6 +30,9 @@ close-load-one network extent load live loading r s a b a′ b′ g h =
     let u = g .used ∙ sym (h .used) in
     let n = g .records ∙ sym (h .records) in
     ((λ i. record { done = d i; used = u i; records = n i }), g .store ∙ sym (h .store), g .zeroed ∙ sym (h .zeroed))
+
+pub rest-is-zero-one : (store : List ℕ) (used : ℕ) (r s : Bool) → r ≡ allZero (drop used store) → s ≡ allZero (drop used store) → r ≡ s
+rest-is-zero-one store used r s e f = e ∙ sym f
 
 pub zero-store-one : (store o o′ : List ℕ) → o ≡ zeros (length store) → o′ ≡ zeros (length store) → o ≡ o′
 zero-store-one store o o′ e f = e ∙ sym f

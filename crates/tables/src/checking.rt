@@ -10,7 +10,7 @@ ghost use Rattle.tables.specs.Store.{allZero, soundStore};
 ghost use Rattle.tables.specs.Steps.{recordsGood};
 
 // Whether the bytes from `used` on are all zero. They are joined with no test between, so that many are taken at a time.
-fn rest_is_zero(store: &[u8], used: usize) -> bool
+pub fn rest_is_zero(store: &[u8], used: usize) -> bool
     ensures { λ r. ⌜ r ≡ allZero (drop used (now (store .entry))) ⌝ }
 {
     let mut joined: u8 = 0;

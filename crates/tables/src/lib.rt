@@ -9,6 +9,7 @@ mod version;
 pub use adding::add_block;
 pub use checking::block_good;
 pub use checking::check_store;
+pub use checking::rest_is_zero;
 pub use closing::close_load;
 pub use version::versions_after;
 ghost use mathlib.Core.Path.{_≡_};

@@ -3,10 +3,13 @@
 
 use crate::random::Random;
 
+pub mod command;
+pub mod limits;
 pub mod message;
 pub mod object;
 pub mod packet;
 pub mod table;
+pub mod traffic;
 
 /// All 256 byte values.
 pub fn every_byte() -> Vec<u8> {

@@ -85,11 +85,25 @@ pub fn random_skipped(random: &mut Random, network: u8) -> Vec<u8> {
     match random.below(3) {
         0 => random_record(random, kind, 0, length),
         1 => random_record(random, kind, (network + 1) % 100, length),
-        _ => {
-            let kind = random.pick(b"0456789/:A\x00\xFF");
-            random_record(random, kind, network, length)
-        }
+        _ => random_unknown(random, network, length),
     }
+}
+
+/// A record that every load skips.
+pub fn random_skipped_by_all(random: &mut Random) -> Vec<u8> {
+    let length = SHORTEST + random.below(64);
+    let kind = random.pick(&KINDS);
+    let network = random_network(random);
+    match random.below(2) {
+        0 => random_record(random, kind, 0, length),
+        _ => random_unknown(random, network, length),
+    }
+}
+
+/// A record of no known kind.
+fn random_unknown(random: &mut Random, network: u8, length: usize) -> Vec<u8> {
+    let kind = random.pick(b"0456789/:A\x00\xFF\x13\x16\x17");
+    random_record(random, kind, network, length)
 }
 
 /// That many lengths of records that come to the total. The average must be a
@@ -150,7 +164,7 @@ fn random_fields(random: &mut Random, network: u8) -> (u8, u8) {
 #[cfg(test)]
 mod tests {
     use super::{full_blocks, random_blocks, random_lengths, random_load};
-    use super::{random_record, random_skipped, record_of};
+    use super::{random_record, random_skipped, random_skipped_by_all, record_of};
     use crate::random::Random;
     use crate::table::block::read_block;
     use crate::table::load::Load;
@@ -226,6 +240,12 @@ mod tests {
                 .collect();
             let mut load = Load::open(network);
             load.add(list(&skipped).expect("good records"));
+            assert_eq!(load, Load::open(network));
+        }
+        for network in 0..=99 {
+            let mut load = Load::open(network);
+            let skipped = random_skipped_by_all(&mut random);
+            load.add(list(&skipped).expect("a good record"));
             assert_eq!(load, Load::open(network));
         }
     }

@@ -5,7 +5,10 @@
 
 use super::ALL;
 
-pub type Version = [u8; 10];
+/// The bytes of a version.
+pub const LENGTH: usize = 10;
+
+pub type Version = [u8; LENGTH];
 
 /// By network, "00" first.
 pub type Versions = [Version; 100];
@@ -15,6 +18,13 @@ pub const NONE: Version = *b"0000000000";
 
 /// The versions of a fresh device.
 pub const FRESH: Versions = [NONE; 100];
+
+/// Whether all are bytes that a version may have. It looks at every one: a walk
+/// that may be left at any of them is one that the compiler takes byte by byte.
+pub fn is_printable(bytes: &[u8]) -> bool {
+    let printable = |byte: &u8| matches!(byte, 0x20..=0x7E);
+    bytes.iter().fold(true, |all, byte| all & printable(byte))
+}
 
 /// The version that a load brings: the one that TLI named, if a TLR has been
 /// answered 000, whatever that one added.
@@ -39,7 +49,7 @@ pub fn closed(versions: &mut Versions, network: u8, version: Version) {
 
 #[cfg(test)]
 mod tests {
-    use super::{brought, closed, FRESH};
+    use super::{brought, closed, is_printable, FRESH};
 
     const A: [u8; 10] = *b"TABVER0008";
     const B: [u8; 10] = *b" ~ ~ ~ ~ ~";
@@ -47,6 +57,16 @@ mod tests {
     #[test]
     fn a_fresh_device_has_100_versions_of_ten_0_digits() {
         assert_eq!(FRESH.concat(), vec![b'0'; 1000]);
+    }
+
+    #[test]
+    fn every_byte_in_every_place() {
+        for (place, byte) in (0..10).flat_map(|place| (0..=255).map(move |byte| (place, byte))) {
+            let mut version = A;
+            version[place] = byte;
+            let printable = (0x20..=0x7E).contains(&byte);
+            assert_eq!(is_printable(&version), printable, "{place} {byte:02X}");
+        }
     }
 
     #[test]

@@ -1,5 +1,6 @@
 //! Every entry of the vectors files against the second program.
 
+mod device;
 mod messages;
 mod objects;
 mod packets;

@@ -7,9 +7,8 @@
 
 #![deny(warnings)]
 mod tables;
-mod timing;
 
-use compare::proved;
+use compare::{proved, timing};
 use second::answer::Answer;
 use second::material::message::parameter_of;
 use second::packet::{framed, DC3, LARGEST_PAYLOAD};
@@ -21,6 +20,7 @@ use std::time::Instant;
 /// A call on its input, into the lent buffer.
 type Call<'a> = &'a dyn Fn(&mut [u8]) -> Answer;
 
+const ROUNDS: usize = 301;
 const CALLS_A_ROUND: u32 = 50;
 
 /// The random payload is the same in every run, so that runs can be compared.
@@ -167,7 +167,7 @@ fn walk(list: &[u8], whole: impl Fn(&[u8]) -> Result<usize, u8>) -> Answer {
 
 fn row(call: &str, input: &str, sides: [Call; 2]) {
     let mut out = vec![0; 2 * LARGEST_PAYLOAD + 4];
-    let medians = timing::medians(|side| time_a_call(sides[side], &mut out));
+    let medians = timing::medians(ROUNDS, |side| time_a_call(sides[side], &mut out));
     timing::print_row(call, input, medians);
 }
 

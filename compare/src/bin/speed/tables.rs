@@ -1,7 +1,8 @@
 //! The rows of the table calls.
 
-use crate::timing;
+use crate::ROUNDS;
 use compare::proved::table as proved;
+use compare::timing;
 use second::by_hand::table::{self as by_hand, Extent};
 use second::material::table::{full_blocks, record_of};
 use second::table::store::{MOST_RECORDS, SIZE};
@@ -217,7 +218,7 @@ fn row(call: &str, input: &str, start: &Stores, sides: [Call; 2], wanted: bool) 
     });
     assert!(after[0] == after[1], "{call}, {input}: the stores differ");
     let mut stores = start.clone();
-    let medians = timing::medians(|side| {
+    let medians = timing::medians(ROUNDS, |side| {
         let mut time = Duration::ZERO;
         for _ in 0..CALLS_A_ROUND {
             stores.clone_from(start);

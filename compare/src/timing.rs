@@ -1,20 +1,17 @@
 //! Rounds of both sides, and the row that comes of them.
 
-/// Rounds of each side in turn: a slow spell of the machine falls on both.
-const ROUNDS: usize = 301;
-
 /// The medians of proved and second, of which a round of side 0 or 1 gives one
-/// time.
-pub fn medians(mut round: impl FnMut(usize) -> f64) -> [f64; 2] {
+/// time. The sides take turns: a slow spell of the machine falls on both.
+pub fn medians(rounds: usize, mut round: impl FnMut(usize) -> f64) -> [f64; 2] {
     let mut times = [Vec::new(), Vec::new()];
-    for _ in 0..ROUNDS {
+    for _ in 0..rounds {
         for (side, times) in times.iter_mut().enumerate() {
             times.push(round(side));
         }
     }
     times.map(|mut times| {
         times.sort_by(f64::total_cmp);
-        times[ROUNDS / 2]
+        times[rounds / 2]
     })
 }
 

@@ -1,0 +1,106 @@
+// Bytes that are not answered: they move the line and fill the reception store, and no other part of the device.
+use crate::Device;
+use crate::Gathered;
+use reception::Line;
+use reception::Reception;
+use reception::Told;
+use reception::take;
+ghost use mathlib.Core.Path.{_≡_};
+ghost use mathlib.Core.Bool.{true};
+ghost use Rattle.device.specs.State.{lineIn};
+ghost use Rattle.device.specs.Steps.{asksIn, placedIn, gathered, Gathers, withLine};
+
+// Where the line is.
+pub(crate) fn line_of(device: Device) -> Line
+    ensures { λ r. ⌜ r ≡ lineIn device ⌝ }
+{
+    let state = device.reception;
+    Line {
+        state,
+        spoiled: device.spoiled,
+        count: device.count,
+    }
+}
+
+// The device with another line and reception store. An enum is no field to be stored to, so the struct is made anew.
+pub(crate) fn with_line(device: Device, line: Line, store: [u8; 2048]) -> Device
+    ensures { λ r. ⌜ r ≡ withLine device line store ⌝ }
+{
+    let held = device.held;
+    let tables = device.tables;
+    let reception = line.state;
+    Device {
+        reception,
+        spoiled: line.spoiled,
+        count: line.count,
+        store,
+        held,
+        tables,
+    }
+}
+
+// Whether `b` is answered: CAN between packets, NAK too where there is something to send again, and a second check byte.
+fn asks(line: Line, b: u8, resend: bool) -> bool
+    ensures { λ r. ⌜ r ≡ asksIn (line .state) resend b ⌝ }
+{
+    let state = line.state;
+    match state {
+        Reception::Idle => (b == 0x18) | ((b == 0x15) & resend),
+        Reception::InData => false,
+        Reception::After13h => false,
+        Reception::FirstCheck => false,
+        Reception::SecondCheck(_) => true,
+    }
+}
+
+// Puts a payload byte in its place.
+fn place(store: &mut [u8], told: Told)
+    ensures { λ _. ⌜ now (store .exit) ≡ placedIn (now (store .entry)) told ⌝ }
+{
+    match told {
+        Told::Nothing => {}
+        Told::Payload(at, b) => {
+            if at < store.len() {
+                store[at] = b;
+            }
+        }
+        Told::Complete(_, _) => {}
+    }
+}
+
+// The byte `last` is answered, and `taken` bytes are taken with it.
+fn stop_at(line: Line, taken: usize, last: u8) -> Gathered
+    ensures { λ r. ⌜ r ≡ record { line = line; taken = taken; asked = true; last = last } ⌝ }
+{
+    Gathered {
+        line,
+        taken,
+        asked: true,
+        last,
+    }
+}
+
+// Takes bytes up to the one that is answered, or all of them.
+pub(crate) fn gather(line: Line, store: &mut [u8], piece: &[u8], resend: bool) -> Gathered
+    ensures { λ r. ⌜ Gathers (gathered resend line (now (store .entry)) 0 (now (piece .entry))) r (now (store .exit)) ⌝ }
+{
+    let mut at = line;
+    let mut i = 0;
+    while i < piece.len() {
+        let b = piece[i];
+        i += 1;
+        if asks(at, b, resend) {
+            return stop_at(at, i, b);
+        }
+        let took = take(at, b);
+        let told = took.told;
+        place(store, told);
+        at = took.line;
+    }
+    Gathered {
+        line: at,
+        taken: i,
+        asked: false,
+        last: 0,
+    }
+}

@@ -42,10 +42,14 @@ placed line b =
 unfoldable pub fromIdle : Line → ℕ → Took
 fromIdle line b = cond (eqb b 0x16) started (goingOn line Idle)
 
+-- a raw 16h starts the packet afresh, in data and right after 13h too
+abbrev pub afresh : ℕ → Took → Took
+afresh b more = cond (eqb b 0x16) started more
+
 -- IN DATA: 17h ends the data and 13h opens a pair; every other byte, 18h, 15h, 06h and 04h too, is payload
 unfoldable pub fromData : Line → ℕ → Took
 fromData line b =
-    cond (eqb b 0x16) started
+    afresh b
     (cond (eqb b 0x17) (goingOn line FirstCheck)
     (cond (eqb b 0x13) (goingOn line After13h)
     (placed line b)))
@@ -53,7 +57,7 @@ fromData line b =
 -- IN DATA AFTER 13h: 17h ends the data and spoils the packet; 33h, 36h and 37h close a pair; any other byte, 13h too, spoils the packet and is dropped
 unfoldable pub from13h : Line → ℕ → Took
 from13h line b =
-    cond (eqb b 0x16) started
+    afresh b
     (cond (eqb b 0x17) (spoiledIn line FirstCheck)
     (cond (eqb b 0x33) (placed line 0x13)
     (cond (eqb b 0x36) (placed line 0x16)

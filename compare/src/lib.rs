@@ -1,6 +1,7 @@
 //! The proved calls against the independent second program: one input, both
 //! answers, both buffers (the scope paper, section What the promises settle). And
-//! the proved program `line` against the second one: one traffic, all replies.
+//! the proved programs against the second ones: `line`, one traffic, all replies;
+//! `replay`, one script of device calls, their answers and the state after them.
 
 #![deny(warnings)]
 

@@ -1,4 +1,4 @@
-//! Programs at the end of a line, run as children.
+//! Programs, run as children.
 
 use std::io::{self, Read, Write};
 use std::os::fd::OwnedFd;
@@ -7,9 +7,18 @@ use std::path::PathBuf;
 use std::process::{Child, ChildStdin, ChildStdout, Command, Stdio};
 use std::thread;
 
-/// Names another place of the proved program.
-const VARIABLE: &str = "ABECS_LINE";
-const DEFAULT: &str = concat!(env!("CARGO_MANIFEST_DIR"), "/../target/bin/line");
+/// Where a proved program is: a variable that names another place, and the place
+/// where it is built.
+type Place = (&'static str, &'static str);
+
+const LINE: Place = (
+    "ABECS_LINE",
+    concat!(env!("CARGO_MANIFEST_DIR"), "/../target/bin/line"),
+);
+const REPLAY: Place = (
+    "ABECS_REPLAY",
+    concat!(env!("CARGO_MANIFEST_DIR"), "/../target/bin/replay"),
+);
 
 /// How a program gets its input.
 #[derive(Clone, Copy, Debug, PartialEq)]
@@ -45,13 +54,22 @@ impl Drop for Started {
     }
 }
 
-/// The proved program. It must have been built: a comparison without it would
-/// pass for nothing.
+/// The proved program `line`.
 pub fn proved() -> Command {
-    let place = std::env::var_os(VARIABLE).map_or(PathBuf::from(DEFAULT), PathBuf::from);
+    at(LINE)
+}
+
+/// The proved program `replay`.
+pub fn proved_replay() -> Command {
+    at(REPLAY)
+}
+
+/// It must have been built: a comparison without it would pass for nothing.
+fn at((variable, default): Place) -> Command {
+    let place = std::env::var_os(variable).map_or(PathBuf::from(default), PathBuf::from);
     assert!(
         place.is_file(),
-        "the proved program is not at {}: build it, or name its place in {VARIABLE}",
+        "the proved program is not at {}: build it, or name its place in {variable}",
         place.display()
     );
     Command::new(place)

@@ -28,6 +28,7 @@ pub mod packet;
 pub mod parameter;
 pub mod pieces;
 pub mod random;
+pub mod replay;
 pub mod script;
 pub mod stored;
 pub mod table;

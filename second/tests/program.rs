@@ -1,6 +1,6 @@
-//! The program itself: its three uses, and the stored script through two of
-//! them.
+//! The program itself: its five uses, and the stored scripts through them.
 
+use second::replay;
 use second::script::shown;
 use second::vectors::Vectors;
 use std::collections::BTreeMap;
@@ -63,6 +63,8 @@ fn other_uses_are_refused() {
         &["other"],
         &["samples", "more"],
         &["line", "more"],
+        &["replay", "more"],
+        &["replay-script", "more"],
     ] {
         let output = run(arguments, b"");
         assert_eq!(output.status.code(), Some(2), "{arguments:?}");
@@ -122,6 +124,38 @@ fn line_answers_before_its_input_ends() {
     stdout.read_to_end(&mut rest).expect("its output ends");
     assert!(rest.is_empty());
     assert!(program.wait().expect("the program ends").success());
+}
+
+/// The state is shown by other tests.
+#[test]
+fn replay_makes_the_calls_on_its_input() {
+    let script = [b"B\x00\x07", &OPN[..], b"TR"].concat();
+    let output = run(&["replay"], &script);
+    assert_eq!(output.status.code(), Some(0));
+    let lines = b"B 0 7 06164F504E30303017775E\nT 0\nR 0\nreception idle 0 0\nheld - 0\n";
+    assert!(output.stdout.starts_with(lines));
+    assert!(output.stdout.ends_with(b"0000\n"));
+    assert!(output.stderr.is_empty());
+}
+
+/// A broken script is no failure: the log tells.
+#[test]
+fn replay_of_a_broken_script() {
+    let output = run(&["replay"], b"X");
+    assert_eq!(output.status.code(), Some(0));
+    assert!(output
+        .stdout
+        .starts_with(b"bad script\nreception idle 0 0\n"));
+}
+
+#[test]
+fn the_stored_replay_script() {
+    let script = run(&["replay-script"], b"");
+    assert_eq!(script.status.code(), Some(0));
+    assert!(script.stdout == replay::stored::script());
+    let log = run(&["replay"], &script.stdout);
+    assert_eq!(log.status.code(), Some(0));
+    assert!(log.stdout == replay::run(&script.stdout));
 }
 
 /// Every printed or computed packet under its own name, and all eight packets

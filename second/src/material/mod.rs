@@ -4,6 +4,7 @@
 use crate::random::Random;
 
 pub mod command;
+pub mod history;
 pub mod limits;
 pub mod message;
 pub mod object;

@@ -49,6 +49,6 @@ fn fitting(outcome: &Outcome) -> usize {
 }
 
 /// Bytes that run through all values.
-fn counting(length: usize) -> Vec<u8> {
+pub(crate) fn counting(length: usize) -> Vec<u8> {
     (0..length).map(|place| (place % 256) as u8).collect()
 }

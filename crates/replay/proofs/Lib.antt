@@ -1,0 +1,2 @@
+-- How far a call can go.
+pub mod Bounds

@@ -1,1 +1,4 @@
+-- In the order of reading.
 pub mod Flags
+pub mod Image
+pub mod ImagePromise

@@ -1,6 +1,15 @@
 // The boundary to C and Rust: each public call under a name of its own, with the same promise. A slice crosses as a pointer and a length.
+mod converting;
+mod image;
+
 use answer::Answer;
 use answer::refused;
+use image::Image;
+use image::Taken;
+use image::receive_image;
+use image::restart_image;
+use image::start_image;
+use image::timeout_image;
 use objects::ObjectRead;
 use tables::Extent;
 use tables::Load;
@@ -18,6 +27,65 @@ ghost use Rattle.objects.specs.Pick.{pick};
 ghost use Rattle.tables.specs.Record.{goodBlock};
 ghost use Rattle.tables.specs.Store.{zeros, soundStore};
 ghost use Rattle.abecs.specs.Flags.{flagOf, loadOf, extentOf, AddsOf, ClosesOf, versionsOf};
+ghost use Rattle.abecs.specs.ImagePromise.{StartsImage, ReceivesImage, TimesOutImage, RestartsImage};
+
+// ---- the device: no enum crosses, so its image is lent, and brought up to date where it stands
+
+// Starts a fresh device and zeroes both stores. Refusal: 2.
+#[no_mangle]
+pub extern "C" fn abecs_start(image: &mut Image, live: &mut [u8], loading: &mut [u8]) -> Taken
+    ensures { λ r. ⌜ StartsImage (now (live .entry)) (now (loading .entry)) (record { image = now (image .exit); answer = r }) (now (live .exit)) (now (loading .exit)) ⌝ }
+{
+    let next = start_image(live, loading);
+    *image = next.image;
+    next.answer
+}
+
+// Takes a piece of the line's bytes, up to the one that completes a reply, or all. Refusals in this order: 1, 2, 3.
+#[no_mangle]
+pub extern "C" fn abecs_receive(
+    image: &mut Image,
+    piece: &[u8],
+    out: &mut [u8],
+    live: &mut [u8],
+    loading: &mut [u8],
+) -> Taken
+    ensures { λ r. ⌜ ReceivesImage (now (image .entry)) (now (piece .entry)) (now (out .entry)) (now (live .entry)) (now (loading .entry)) (record { image = now (image .exit); answer = r }) (now (out .exit)) (now (live .exit)) (now (loading .exit)) ⌝ }
+{
+    let next = receive_image(*image, piece, out, live, loading);
+    *image = next.image;
+    next.answer
+}
+
+// The line was silent for too long: reception goes idle. Refusals: 1, 2, 3.
+#[no_mangle]
+pub extern "C" fn abecs_timeout(
+    image: &mut Image,
+    out: &mut [u8],
+    live: &mut [u8],
+    loading: &mut [u8],
+) -> Taken
+    ensures { λ r. ⌜ TimesOutImage (now (image .entry)) (now (out .entry)) (now (live .entry)) (now (loading .entry)) (record { image = now (image .exit); answer = r }) (now (out .exit)) (now (live .exit)) (now (loading .exit)) ⌝ }
+{
+    let next = timeout_image(*image, out, live, loading);
+    *image = next.image;
+    next.answer
+}
+
+// The board restarted: reception idle, held response forgotten, open load dropped. Refusals: 1, 2, 3.
+#[no_mangle]
+pub extern "C" fn abecs_restart(
+    image: &mut Image,
+    out: &mut [u8],
+    live: &mut [u8],
+    loading: &mut [u8],
+) -> Taken
+    ensures { λ r. ⌜ RestartsImage (now (image .entry)) (now (out .entry)) (now (live .entry)) (now (loading .entry)) (record { image = now (image .exit); answer = r }) (now (out .exit)) (now (live .exit)) (now (loading .exit)) ⌝ }
+{
+    let next = restart_image(*image, out, live, loading);
+    *image = next.image;
+    next.answer
+}
 
 // ---- packets
 

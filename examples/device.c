@@ -2,7 +2,7 @@
  * piece, one that is broken off, and two calls that are refused. It prints the exchange, and ends with 1 if anything is not as it should be.
  *
  *     rt staticlib abecs
- *     gcc -std=c11 -Wall -Wextra -Werror -I cb/include cb/examples/device.c target/staticlib/libabecs.a -o device && ./device
+ *     gcc -std=c11 -Wall -Wextra -Werror -Iinclude examples/device.c target/staticlib/libabecs.a -o target/device-example && target/device-example
  */
 #include <stdio.h>
 #include <stdlib.h>

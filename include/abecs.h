@@ -1,7 +1,7 @@
 /* The device end of an Abecs 2.20 line, and its codecs: what libabecs.a holds.
  *
  * Every buffer is the caller's. A call reads and writes only what it is lent, and keeps no pointer. A buffer is a pointer and
- * a count of bytes; the pointer is never null, also where the count is 0, and two buffers that one of which is written do not overlap.
+ * a count of bytes; the pointer is never null, also where the count is 0, and a buffer that is written overlaps no other.
  * A refusal is a number; 0 is a success. A refused call has changed nothing.
  *
  *  1  too little room: under 64 bytes for a device call, under the output's length for the others
@@ -106,6 +106,29 @@ struct abecs_object {
 struct abecs_object abecs_read_object(const uint8_t *input, size_t input_len);
 struct abecs_answer abecs_write_object(const uint8_t *tag, size_t tag_len, const uint8_t *value, size_t value_len, uint8_t *out, size_t out_len);
 struct abecs_answer abecs_pick(const uint8_t *tags, size_t tags_len, const uint8_t *objects, size_t objects_len, uint8_t *out, size_t out_len);
+
+/* ---- table stores, for tools that look into one. The device's calls need none of these. A flag is 0 or 1 */
+
+struct abecs_load {
+    size_t used;
+    size_t records;
+    uint8_t over;
+};
+
+struct abecs_closed {
+    uint8_t done;
+    size_t used;
+    size_t records;
+};
+
+uint8_t abecs_check_store(const uint8_t *store, size_t store_len, size_t used, size_t records, uint8_t network);
+uint8_t abecs_block_good(const uint8_t *block, size_t block_len);
+struct abecs_load abecs_add_block(uint8_t *store, size_t store_len, size_t used, size_t records, uint8_t over, uint8_t network,
+                                  const uint8_t *block, size_t block_len);
+struct abecs_closed abecs_close_load(uint8_t *live, size_t live_len, uint8_t *loading, size_t loading_len, size_t live_used,
+                                     size_t live_records, size_t load_used, size_t load_records, uint8_t over, uint8_t network);
+void abecs_zero_store(uint8_t *store, size_t store_len);
+void abecs_versions_after(uint8_t *versions, size_t versions_len, uint8_t network, const uint8_t *version, size_t version_len);
 
 #ifdef __cplusplus
 }

@@ -4,6 +4,7 @@
 use second::answer::{give, Answer, Outcome};
 use second::script::{fresh_buffer, shown};
 
+pub mod device;
 pub mod message;
 pub mod object;
 pub mod packet;

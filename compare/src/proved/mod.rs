@@ -7,6 +7,7 @@
 
 use second::answer::Answer;
 
+pub mod device;
 pub mod message;
 pub mod object;
 pub mod packet;

@@ -85,24 +85,30 @@ pub fn script_of(random: &mut Random, history: &[Event], cut: Cut) -> Vec<u8> {
             (Event::Bytes(bytes), Cut::Into(size)) => {
                 bytes.chunks(size).for_each(|piece| calls.piece(piece));
             }
-            (Event::Bytes(bytes), Cut::Random) => cut_at_random(random, &mut calls, bytes),
+            (Event::Bytes(bytes), Cut::Random) => {
+                let pieces = random_pieces(random, bytes);
+                pieces.iter().for_each(|piece| calls.piece(piece));
+            }
         }
     }
     calls.script
 }
 
-fn cut_at_random(random: &mut Random, calls: &mut Calls, mut rest: &[u8]) {
+/// The bytes in pieces, as `Cut::Random` has them.
+pub fn random_pieces<'a>(random: &mut Random, mut rest: &'a [u8]) -> Vec<&'a [u8]> {
+    let mut pieces = Vec::new();
     let mut most = random.pick(&MOST);
     while !rest.is_empty() {
         if random.below(16) == 0 {
-            calls.piece(&[]);
+            pieces.push(&[][..]);
             most = random.pick(&MOST);
         }
         let length = (1 + random.below(most)).min(rest.len());
         let (piece, after) = rest.split_at(length);
-        calls.piece(piece);
+        pieces.push(piece);
         rest = after;
     }
+    pieces
 }
 
 /// The script with something behind it that is no call, or no whole one. What

@@ -81,7 +81,10 @@ fn talk(host: &mut File, heard: &Receiver<u8>, second: &mut Line, piece: &[u8]) 
 }
 
 fn is_installed() -> bool {
-    let version = Command::new("socat").arg("-V").stdout(Stdio::null()).status();
+    let version = Command::new("socat")
+        .arg("-V")
+        .stdout(Stdio::null())
+        .status();
     version.is_ok_and(|status| status.success())
 }
 
@@ -94,7 +97,10 @@ fn single_bytes_bursts_and_pauses() {
     let mut random = Random::new(seed::told("single_bytes_bursts_and_pauses"));
     let traffic = random_traffic(&mut random, 60_000, Loads::Short);
     let terminal = Terminal::open();
-    let opened = OpenOptions::new().read(true).write(true).open(&terminal.name);
+    let opened = OpenOptions::new()
+        .read(true)
+        .write(true)
+        .open(&terminal.name);
     let mut host = opened.expect("the terminal opens");
     let heard = listen(host.try_clone().expect("it opens twice"));
     let mut second = Line::fresh();
@@ -108,5 +114,8 @@ fn single_bytes_bursts_and_pauses() {
         }
         rest = later;
     }
-    assert!(heard.try_recv().is_err(), "nothing comes that was not asked for");
+    assert!(
+        heard.try_recv().is_err(),
+        "nothing comes that was not asked for"
+    );
 }

@@ -154,11 +154,20 @@ pub fn receive(
     taken.done()
 }
 
-/// The timeout.
-pub fn timeout(image: &mut Image, out: &mut [u8], live: &mut [u8], loading: &mut [u8]) -> Done {
+/// How an event comes from outside the line: a timeout and a restart are called alike.
+type EventCall =
+    unsafe extern "C" fn(*mut Image, *mut u8, usize, *mut u8, usize, *mut u8, usize) -> Taken;
+
+fn event(
+    call: EventCall,
+    image: &mut Image,
+    out: &mut [u8],
+    live: &mut [u8],
+    loading: &mut [u8],
+) -> Done {
     // SAFETY: as the module `proved` says.
     let taken = unsafe {
-        abecs_timeout(
+        call(
             image,
             out.as_mut_ptr(),
             out.len(),
@@ -171,19 +180,12 @@ pub fn timeout(image: &mut Image, out: &mut [u8], live: &mut [u8], loading: &mut
     taken.done()
 }
 
+/// The timeout.
+pub fn timeout(image: &mut Image, out: &mut [u8], live: &mut [u8], loading: &mut [u8]) -> Done {
+    event(abecs_timeout, image, out, live, loading)
+}
+
 /// The restart.
 pub fn restart(image: &mut Image, out: &mut [u8], live: &mut [u8], loading: &mut [u8]) -> Done {
-    // SAFETY: as the module `proved` says.
-    let taken = unsafe {
-        abecs_restart(
-            image,
-            out.as_mut_ptr(),
-            out.len(),
-            live.as_mut_ptr(),
-            live.len(),
-            loading.as_mut_ptr(),
-            loading.len(),
-        )
-    };
-    taken.done()
+    event(abecs_restart, image, out, live, loading)
 }

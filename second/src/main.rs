@@ -1,7 +1,8 @@
 //! `second samples` runs a samples script from standard input; `second script
 //! VECTORS_DIR` makes the stored script from the folder of vectors files; `second
 //! line` is the device's end of a line; `second replay` runs a script of device
-//! calls from standard input, and `second replay-script` makes the stored one.
+//! calls from standard input, and `second replay-script VECTORS_DIR` makes the stored
+//! one.
 
 #![deny(warnings)]
 
@@ -15,7 +16,7 @@ const USAGE: &str = "usage: second samples < SCRIPT > LOG
        second script VECTORS_DIR > SCRIPT
        second line < TRAFFIC > REPLIES
        second replay < SCRIPT > LOG
-       second replay-script > SCRIPT";
+       second replay-script VECTORS_DIR > SCRIPT";
 
 fn main() -> ExitCode {
     let arguments: Vec<String> = std::env::args().skip(1).collect();
@@ -25,7 +26,7 @@ fn main() -> ExitCode {
         ["script", folder] => stored_script(folder),
         ["line"] => on_the_line(),
         ["replay"] => input().map(|script| replay::run(&script)),
-        ["replay-script"] => Ok(replay::stored::script()),
+        ["replay-script", folder] => replay_script(folder),
         _ => {
             eprintln!("{USAGE}");
             return ExitCode::from(2);
@@ -51,6 +52,10 @@ fn input() -> Result<Vec<u8>, String> {
 fn stored_script(folder: &str) -> Result<Vec<u8>, String> {
     let vectors = Vectors::read(Path::new(folder))?;
     Ok(stored::script(&vectors)?.into_bytes())
+}
+
+fn replay_script(folder: &str) -> Result<Vec<u8>, String> {
+    replay::stored::script(&Vectors::read(Path::new(folder))?)
 }
 
 /// All replies have been written when it returns.

@@ -64,7 +64,7 @@ fn other_uses_are_refused() {
         &["samples", "more"],
         &["line", "more"],
         &["replay", "more"],
-        &["replay-script", "more"],
+        &["replay-script"],
     ] {
         let output = run(arguments, b"");
         assert_eq!(output.status.code(), Some(2), "{arguments:?}");
@@ -150,9 +150,12 @@ fn replay_of_a_broken_script() {
 
 #[test]
 fn the_stored_replay_script() {
-    let script = run(&["replay-script"], b"");
+    let script = run(&["replay-script", VECTORS], b"");
     assert_eq!(script.status.code(), Some(0));
-    assert!(script.stdout == replay::stored::script());
+    assert_eq!(
+        replay::stored::script(&vectors()),
+        Ok(script.stdout.clone())
+    );
     let log = run(&["replay"], &script.stdout);
     assert_eq!(log.status.code(), Some(0));
     assert!(log.stdout == replay::run(&script.stdout));

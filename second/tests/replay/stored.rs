@@ -4,14 +4,22 @@ use super::log;
 use second::device::State;
 use second::hex;
 use second::line::Line;
-use second::replay::stored::script;
+use second::replay::stored;
+use second::vectors::Vectors;
 use std::collections::{BTreeMap, BTreeSet};
+use std::path::Path;
 
 /// Every response that there is, those of a GTS000 taken as one.
 const RESPONSES: [&str; 13] = [
     "OPN000", "GTS000", "GTS011", "TLI000", "TLI011", "TLI020", "TLR000", "TLR010", "TLR011",
     "TLE000", "TLE010", "TLE021", "ERR010",
 ];
+
+fn script() -> Vec<u8> {
+    let folder = concat!(env!("CARGO_MANIFEST_DIR"), "/../vectors");
+    let vectors = Vectors::read(Path::new(folder)).expect("the vectors files are well formed");
+    stored::script(&vectors).expect("the vectors are whole")
+}
 
 /// What a script asks for, without its end where that breaks off.
 enum Call<'a> {

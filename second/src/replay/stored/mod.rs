@@ -1,8 +1,9 @@
 //! The stored replay script: cases picked by hand for each rule of the scope
-//! paper, sections Reception and Commands, then random histories, and an end in
+//! paper, sections Reception and Commands, the documents' own examples, random histories, and an end in
 //! the middle of an open load and of a packet. It is the same in every run.
 
 mod commands;
+mod documents;
 mod end;
 mod events;
 mod limits;
@@ -16,6 +17,7 @@ use crate::material::table::{full_blocks, record_of};
 use crate::material::traffic::Loads;
 use crate::random::Random;
 use crate::table::version::Version;
+use crate::vectors::Vectors;
 
 const A: Version = *b"TABVER0008";
 const B: Version = *b" ~ ~ ~ ~ ~";
@@ -30,16 +32,17 @@ const HISTORIES: usize = 6;
 const LENGTH: usize = 20_000;
 const SEED: u64 = 1;
 
-pub fn script() -> Vec<u8> {
+pub fn script(vectors: &Vectors) -> Result<Vec<u8>, String> {
     let mut calls = Calls::default();
     line::cases(&mut calls);
     commands::cases(&mut calls);
     loads::cases(&mut calls);
     limits::cases(&mut calls);
     events::cases(&mut calls);
+    documents::cases(&mut calls, vectors)?;
     at_random(&mut calls);
     end::case(&mut calls);
-    calls.script
+    Ok(calls.script)
 }
 
 fn at_random(calls: &mut Calls) {
@@ -85,6 +88,8 @@ mod tests {
     use super::{script, Calls};
     use crate::hex;
     use crate::replay::run;
+    use crate::vectors::Vectors;
+    use std::path::Path;
 
     /// Names and codes of the responses to these calls on a fresh device, those
     /// that are sent again left out.
@@ -101,8 +106,15 @@ mod tests {
             .collect()
     }
 
+    pub fn documents() -> Vectors {
+        let folder = concat!(env!("CARGO_MANIFEST_DIR"), "/../vectors");
+        Vectors::read(Path::new(folder)).expect("the vectors can be read")
+    }
+
     #[test]
     fn it_is_the_same_each_time() {
-        assert!(script() == script());
+        let vectors = documents();
+        assert!(script(&vectors).is_ok());
+        assert!(script(&vectors) == script(&vectors));
     }
 }

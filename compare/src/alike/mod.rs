@@ -36,7 +36,9 @@ fn assert_alike(
     }
 }
 
-fn called(room: usize, call: impl FnOnce(&mut [u8]) -> Answer) -> (Vec<u8>, Answer) {
+/// The answer of one program to a call with that room, and the buffer after it, with
+/// what was not lent behind it.
+pub fn called(room: usize, call: impl FnOnce(&mut [u8]) -> Answer) -> (Vec<u8>, Answer) {
     let mut buffer = fresh_buffer(room + NOT_LENT);
     let answer = call(&mut buffer[..room]);
     (buffer, answer)

@@ -1,84 +1,54 @@
-//! The rows of the table calls.
+//! The table calls: a device call checks both stores, TLR judges and adds a block,
+//! TLE closes the load.
 
-use crate::ROUNDS;
+use crate::checks;
+use crate::report::{Figures, Group, Row, BY_HAND};
+use crate::stores::{records, Stores, FULL, LENGTH, LOADED, OTHER};
 use compare::proved::table as proved;
 use compare::timing;
 use second::by_hand::table::{self as by_hand, Extent};
-use second::material::table::{full_blocks, record_of};
-use second::table::store::{MOST_RECORDS, SIZE};
+use second::material::table::full_blocks;
 use std::hint::black_box;
-use std::time::{Duration, Instant};
 
+const ROUNDS: usize = 301;
 const CALLS_A_ROUND: u32 = 5;
-
-/// The network of every load here, and another one.
-const LOADED: u8 = 7;
-const OTHER: u8 = 8;
-
-/// A store that is full by bytes and by records at once.
-const FULL: usize = MOST_RECORDS;
-const LENGTH: usize = SIZE / FULL;
-
-/// Both stores and their numbers.
-#[derive(Clone, PartialEq)]
-struct Stores {
-    live: Vec<u8>,
-    live_extent: Extent,
-    loading: Vec<u8>,
-    load: Extent,
-    over: bool,
-}
 
 /// A call on the stores.
 type Call<'a> = &'a dyn Fn(&mut Stores) -> bool;
 
-/// All rows: a device call checks both stores, TLR judges and adds a block, TLE
-/// closes the load.
-pub fn rows() {
-    checks();
-    adding();
-    let name = format!("{FULL} on {FULL} of another");
-    close(&name, &stores(&[OTHER; FULL], LENGTH, FULL), false);
-    let name = format!("{FULL} on {FULL} of its own");
-    close(&name, &stores(&[LOADED; FULL], LENGTH, FULL), true);
-    growth();
-}
-
-fn checks() {
-    let full = [LOADED; FULL];
-    let long = [LOADED; 4];
-    for (name, stores) in [
-        (format!("{FULL} records each"), stores(&full, LENGTH, FULL)),
-        ("4 long, zero rest".to_string(), stores(&long, 997, 4)),
-    ] {
-        row(
-            "check stores",
-            &name,
-            &stores,
-            [&proved_check, &by_hand_check],
-            true,
-        );
-    }
+/// The checks are measured once, and shown in time and in bytes.
+pub fn groups() -> Vec<Group> {
+    let [full, long, few] = checks::measured();
+    let mut rows = vec![full.times(), long.times()];
+    rows.extend(adding());
+    rows.extend(closing());
+    let tables = Group {
+        title: "Tables",
+        second: BY_HAND,
+        rows,
+    };
+    let rates = Group {
+        title: "Tables, the checks in bytes",
+        second: BY_HAND,
+        rows: vec![full.rates(), few.rates()],
+    };
+    vec![tables, rates]
 }
 
 /// A whole load, in blocks that are as full as they can be.
-fn adding() {
-    let blocks = full_blocks(&vec![record_of(b'1', LOADED, 0, LENGTH); FULL]);
-    let name = format!("{FULL} records, {} blocks", blocks.len());
-    let start = stores(&[], LENGTH, 0);
+fn adding() -> [Row; 2] {
+    let blocks = full_blocks(&records(LOADED, LENGTH, FULL));
+    let input = format!("{FULL} records, {} blocks", blocks.len());
+    let start = Stores::of(&[], LENGTH, 0);
     let judge = |good: fn(&[u8]) -> bool| blocks.iter().all(|block| good(black_box(block)));
-    row(
-        "judge blocks",
-        &name,
+    let judged = medians(
         &start,
         [&|_| judge(|block| proved::block_good(block) == 1), &|_| {
             judge(by_hand::block_is_good)
         }],
         true,
     );
-    row(
-        "add blocks",
-        &name,
+    let added = medians(
         &start,
         [
             &|stores| proved_add(stores, black_box(&blocks)),
@@ -86,68 +56,39 @@ fn adding() {
         ],
         true,
     );
+    [("judge blocks", judged), ("add blocks", added)]
+        .map(|(call, ns)| Row::times(call, &input, "call", ns))
 }
 
-/// New sets of which every other live record stays, and so has to move: twice
-/// the records, and about twice the time if that goes with the bytes.
-fn growth() {
-    let [half, full] = [FULL / 2, FULL].map(|records| {
-        let networks: Vec<u8> = [OTHER, LOADED].repeat(records / 2);
-        let start = stores(&networks, LENGTH, records / 2);
-        close(&format!("a set of {records}, mixed"), &start, true)
-    });
-    let [proved, second] = [0, 1].map(|side| full[side] / half[side]);
-    let name = format!("{FULL} : {}, times", FULL / 2);
-    println!(
-        "{:<15} {name:<24} {proved:>6.2} {second:>9.2}",
-        "close load"
-    );
-}
-
-/// Live records of these networks, and a load of that many.
-fn stores(live: &[u8], length: usize, load: usize) -> Stores {
-    let (live, live_extent) = store(live, length);
-    let (loading, load) = store(&vec![LOADED; load], length);
-    Stores {
-        live,
-        live_extent,
-        loading,
-        load,
-        over: false,
-    }
-}
-
-fn store(networks: &[u8], length: usize) -> (Vec<u8>, Extent) {
-    let record = |network: &u8| record_of(b'1', *network, 0, length);
-    let mut store: Vec<u8> = networks.iter().flat_map(record).collect();
-    let extent = Extent {
-        used: store.len(),
-        records: networks.len(),
+/// Loads that are refused and done, and how the time grows. In the sets that are
+/// mixed every other live record stays, and so has to move: twice the records,
+/// and about twice the time if that goes with the bytes.
+fn closing() -> Vec<Row> {
+    let close = |start: &Stores, done| medians(start, [&proved_close, &by_hand_close], done);
+    let own = |network| Stores::of(&[network; FULL], LENGTH, FULL);
+    let mixed = |records: usize| {
+        let networks = [OTHER, LOADED].repeat(records / 2);
+        close(&Stores::of(&networks, LENGTH, records / 2), true)
     };
-    store.resize(SIZE, 0);
-    (store, extent)
-}
-
-fn close(name: &str, start: &Stores, done: bool) -> [f64; 2] {
-    row(
-        "close load",
-        name,
-        start,
-        [&proved_close, &by_hand_close],
-        done,
-    )
-}
-
-fn proved_check(stores: &mut Stores) -> bool {
-    let check = |store: &[u8], extent: Extent, network| {
-        proved::check_store(store, extent.used, extent.records, network) == 1
-    };
-    check(&stores.live, stores.live_extent, 0) && check(&stores.loading, stores.load, LOADED)
-}
-
-fn by_hand_check(stores: &mut Stores) -> bool {
-    by_hand::check_store(&stores.live, stores.live_extent, 0)
-        && by_hand::check_store(&stores.loading, stores.load, LOADED)
+    let [half, full] = [FULL / 2, FULL].map(mixed);
+    let mut rows: Vec<Row> = [
+        (
+            format!("{FULL} on {FULL} of another"),
+            close(&own(OTHER), false),
+        ),
+        (
+            format!("{FULL} on {FULL} of its own"),
+            close(&own(LOADED), true),
+        ),
+        (format!("a set of {}, mixed", FULL / 2), half),
+        (format!("a set of {FULL}, mixed"), full),
+    ]
+    .map(|(input, ns)| Row::times("close load", &input, "call", ns))
+    .into();
+    let growth = Figures::Growth([0, 1].map(|side| full[side] / half[side]));
+    let input = format!("{FULL} : {}, mixed", FULL / 2);
+    rows.push(Row::of("close load", &input, growth));
+    rows
 }
 
 fn proved_add(stores: &mut Stores, blocks: &[Vec<u8>]) -> bool {
@@ -208,26 +149,18 @@ fn numbers(stores: &Stores) -> proved::Load {
     }
 }
 
-/// Times the call on stores that are put back before each; answers with the
-/// medians. Both sides must answer as said and leave the same stores.
-fn row(call: &str, input: &str, start: &Stores, sides: [Call; 2], wanted: bool) -> [f64; 2] {
-    let after = sides.map(|side| {
+/// What the call takes on stores that are put back before each. Both sides must
+/// answer as said and leave the same stores.
+fn medians(start: &Stores, sides: [Call; 2], wanted: bool) -> [f64; 2] {
+    let [proved, second] = sides.map(|side| {
         let mut stores = start.clone();
-        assert_eq!(side(&mut stores), wanted, "{call}, {input}");
+        assert_eq!(side(&mut stores), wanted, "the answer is another");
         stores
     });
-    assert!(after[0] == after[1], "{call}, {input}: the stores differ");
-    let mut stores = start.clone();
-    let medians = timing::medians(ROUNDS, |side| {
-        let mut time = Duration::ZERO;
-        for _ in 0..CALLS_A_ROUND {
-            stores.clone_from(start);
-            let begin = Instant::now();
-            black_box(sides[side](black_box(&mut stores)));
-            time += begin.elapsed();
-        }
-        time.as_nanos() as f64 / f64::from(CALLS_A_ROUND)
-    });
-    timing::print_row(call, input, medians);
-    medians
+    assert!(proved == second, "the stores differ");
+    timing::medians(ROUNDS, |side| {
+        timing::average_from(CALLS_A_ROUND, start, |stores| {
+            black_box(sides[side](stores));
+        })
+    })
 }

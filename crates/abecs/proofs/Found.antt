@@ -4,7 +4,7 @@ use Prim.Native.Nat.{ℕ}
 use Rattle.answer.specs.Answers.{Result, bytesOf}
 use Rattle.answer.specs.Answers.Result.{Good, Refused}
 use Rattle.answer.proofs.Promises.{Numbered}
-use Rattle.message.specs.Finding.{refusalOf}
+use Rattle.parameters.specs.Finding.{refusalOf}
 
 pub found-none : (found : Result) (n : ℕ) → n ≡ refusalOf found → (n ≡ 0 → ⊥) → found ≡ Refused n
 found-none (Good s) n e h = absurd (h e)

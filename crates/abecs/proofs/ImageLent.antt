@@ -1,13 +1,13 @@
 -- The image, its answer and the struct of the two, as the laws of InPlace*.antt take them.
 use mathlib.Core.Path.{refl}
-use Rattle.abecs.specs.declared.image.Image.{Image}
-use Rattle.abecs.specs.declared.image.Taken.{Taken}
-use Rattle.abecs.specs.declared.image.Imaged.{Imaged}
-use Rattle.abecs.proofs.image.Image as S′
-use Rattle.abecs.proofs.image.Image.Laws as S″
-use Rattle.abecs.proofs.image.Taken as Z′
-use Rattle.abecs.proofs.image.Taken.Laws as Z″
-use Rattle.abecs.proofs.image.Imaged as SZ′
+use Rattle.image.specs.declared.Image.{Image}
+use Rattle.image.specs.declared.Taken.{Taken}
+use Rattle.image.specs.declared.Imaged.{Imaged}
+use Rattle.image.proofs.Image as S′
+use Rattle.image.proofs.Image.Laws as S″
+use Rattle.image.proofs.Taken as Z′
+use Rattle.image.proofs.Taken.Laws as Z″
+use Rattle.image.proofs.Imaged as SZ′
 use Rattle.abecs.proofs.InPlaceLent.{Lent}
 
 abbrev pub lent : Lent

@@ -1,11 +1,8 @@
--- `Found` has the cases of what a search comes to, `Whole` a buffer that is put over whole. `Imaging`: what the calls on an image give, from what the
--- device's calls give. `Back`: image and device, both ways, and a bad image is refused. `InPlaceStep`, `InPlaceEvent` and `InPlaceFresh`: the functions that
--- bring a lent struct up to date where it stands, over `InPlaceLent`; `ImageLent` has the structs that they are taken at. `Promises`: one result of each
--- call with flags or an image.
+-- `Found` has the cases of what a search comes to, `Whole` a buffer that is put over whole. `InPlaceStep`, `InPlaceEvent` and `InPlaceFresh`: the
+-- functions that bring a lent struct up to date where it stands, over `InPlaceLent`; `ImageLent` has the structs that they are taken at. `Promises`: one
+-- result of each call with flags or an image.
 pub mod Found
 pub mod Whole
-pub mod Imaging
-pub mod Back
 pub mod InPlaceLent
 pub mod InPlaceStep
 pub mod InPlaceEvent

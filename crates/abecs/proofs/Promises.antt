@@ -8,17 +8,18 @@ use Prim.Native.Nat.{ℕ, zero, suc}
 use lib.ListN.{length}
 use Rattle.tables.specs.declared.Extent.{Extent}
 use Rattle.tables.specs.declared.Load.{Load}
-use Rattle.device.specs.Sound.{refusalOf}
+use Rattle.state.specs.Sound.{refusalOf}
 use Rattle.device.specs.Promise.{Left, unless}
+use Rattle.image.specs.declared.Image.{Image}
+use Rattle.image.specs.declared.Taken.{Taken}
+use Rattle.image.specs.declared.Imaged.{Imaged}
+use Rattle.image.specs.Image.{isImage}
+use Rattle.image.specs.ImagePromise.{stateIn, ImageGives, ImageAnswers, StartsImage, ReceivesImage, TimesOutImage, RestartsImage}
+use Rattle.image.proofs.Back.{bad-not-accepted}
+use Rattle.image.proofs.Promises.{image-answers-one, start-image-one}
 use Rattle.abecs.specs.declared.LoadOf.{LoadOf}
 use Rattle.abecs.specs.declared.ClosedOf.{ClosedOf}
-use Rattle.abecs.specs.declared.image.Image.{Image}
-use Rattle.abecs.specs.declared.image.Taken.{Taken}
-use Rattle.abecs.specs.declared.image.Imaged.{Imaged}
 use Rattle.abecs.specs.Flags.{AddsOf, ClosesOf}
-use Rattle.abecs.specs.Image.{isImage}
-use Rattle.abecs.specs.ImagePromise.{stateIn, ImageGives, ImageAnswers, StartsImage, ReceivesImage, TimesOutImage, RestartsImage}
-use Rattle.abecs.proofs.Back.{bad-not-accepted}
 
 pub add-block-one : (network : ℕ) (load : Load) (block bytes : List ℕ) (r s : LoadOf) (o o′ : List ℕ) → AddsOf network load block bytes r o → AddsOf network load block bytes s o′ → (r ≡ s) × (o ≡ o′)
 add-block-one network load block bytes r s o o′ g h = (g .answer ∙ sym (h .answer), g .store ∙ sym (h .store))
@@ -42,13 +43,15 @@ answers-one : (i : Image) (left : Left) (out live loading : List ℕ) (j k : Ima
     → ImageAnswers i left out live loading (record { image = j; answer = r }) a b c → ImageAnswers i left out live loading (record { image = k; answer = s }) a′ b′ c′
     → ((j ≡ k) × (r ≡ s)) × (a ≡ a′) × (b ≡ b′) × (c ≡ c′)
 answers-one i left out live loading j k r s a b c a′ b′ c′ g h =
-    (apart j k r s (g .result ∙ sym (h .result)), g .said ∙ sym (h .said), g .live-is ∙ sym (h .live-is), g .loading-is ∙ sym (h .loading-is))
+    let e = image-answers-one i left out live loading (record { image = j; answer = r }) (record { image = k; answer = s }) a b c a′ b′ c′ g h in
+    (apart j k r s (e .0), e .1, e .2, e .3)
 
 pub start-one : (live loading : List ℕ) (j k : Image) (r s : Taken) (a b a′ b′ : List ℕ)
     → StartsImage live loading (record { image = j; answer = r }) a b → StartsImage live loading (record { image = k; answer = s }) a′ b′
     → ((j ≡ k) × (r ≡ s)) × (a ≡ a′) × (b ≡ b′)
 start-one live loading j k r s a b a′ b′ g h =
-    (apart j k r s (g .result ∙ sym (h .result)), g .live-is ∙ sym (h .live-is), g .loading-is ∙ sym (h .loading-is))
+    let e = start-image-one live loading (record { image = j; answer = r }) (record { image = k; answer = s }) a b a′ b′ g h in
+    (apart j k r s (e .0), e .1, e .2)
 
 pub receive-one : (i : Image) (piece out live loading : List ℕ) (j k : Image) (r s : Taken) (a b c a′ b′ c′ : List ℕ)
     → ReceivesImage i piece out live loading (record { image = j; answer = r }) a b c → ReceivesImage i piece out live loading (record { image = k; answer = s }) a′ b′ c′

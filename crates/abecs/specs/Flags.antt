@@ -2,20 +2,18 @@
 -- the call behind it.
 use Prim.Native.Nat.{ℕ, _-_}
 use mathlib.Core.Path.{_≡_}
-use mathlib.Core.Bool.{Bool, not, _&&_, cond}
+use mathlib.Core.Bool.{not, _&&_, cond}
 use mathlib.Core.List.{List, _++_}
 use lib.ListN.{length}
 use lib.Dec.{eqb}
+use Rattle.records.specs.Store.{zeros}
 use Rattle.tables.specs.declared.Extent.{Extent}
 use Rattle.tables.specs.declared.Load.{Load}
-use Rattle.tables.specs.Store.{zeros}
 use Rattle.tables.specs.Loading.{Stocked, stocked}
 use Rattle.tables.specs.Closing.{closes, newBytes, newRecords, newVersions}
+use Rattle.image.specs.Image.{flagOf}
 use Rattle.abecs.specs.declared.LoadOf.{LoadOf}
 use Rattle.abecs.specs.declared.ClosedOf.{ClosedOf}
-
-abbrev pub flagOf : Bool → ℕ
-flagOf b = cond b 1 0
 
 -- the load that two numbers and a flag tell
 abbrev pub loadOf : ℕ → ℕ → ℕ → Load

@@ -1,4 +1,1 @@
--- In the order of reading.
 pub mod Flags
-pub mod Image
-pub mod ImagePromise

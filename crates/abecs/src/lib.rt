@@ -1,11 +1,9 @@
 // The boundary to C and Rust: each public call under a name of its own, with the same promise. A slice crosses as a pointer and a length.
-mod converting;
-mod image;
-
 use answer::Answer;
 use answer::refused;
 use image::Image;
 use image::Taken;
+use image::flag;
 use image::receive_image;
 use image::restart_image;
 use image::start_image;
@@ -20,14 +18,15 @@ ghost use lib.ListN.{length};
 ghost use Rattle.answer.specs.Answers.{Gives};
 ghost use Rattle.crc16.specs.Crc.{check};
 ghost use Rattle.packet.specs.Packet.{writePacket, readPacket};
-ghost use Rattle.message.specs.Finding.{find};
+ghost use Rattle.parameters.specs.Finding.{find};
 ghost use Rattle.message.specs.Message.{readMessage, writeMessage};
 ghost use Rattle.objects.specs.Object.{writeObject, readOf};
-ghost use Rattle.objects.specs.Pick.{pick};
-ghost use Rattle.tables.specs.Record.{goodBlock};
-ghost use Rattle.tables.specs.Store.{zeros, soundStore};
-ghost use Rattle.abecs.specs.Flags.{flagOf, loadOf, extentOf, AddsOf, ClosesOf, versionsOf};
-ghost use Rattle.abecs.specs.ImagePromise.{StartsImage, ReceivesImage, TimesOutImage, RestartsImage};
+ghost use Rattle.picking.specs.Pick.{pick};
+ghost use Rattle.records.specs.Record.{goodBlock};
+ghost use Rattle.records.specs.Store.{zeros, soundStore};
+ghost use Rattle.image.specs.Image.{flagOf};
+ghost use Rattle.image.specs.ImagePromise.{StartsImage, ReceivesImage, TimesOutImage, RestartsImage};
+ghost use Rattle.abecs.specs.Flags.{loadOf, extentOf, AddsOf, ClosesOf, versionsOf};
 
 // ---- the device: no enum crosses, so its image is lent, and brought up to date where it stands
 
@@ -136,11 +135,11 @@ pub extern "C" fn abecs_write_message(
 pub extern "C" fn abecs_find_parameter(list: &[u8], number: u16, n: usize, out: &mut [u8]) -> Answer
     ensures { λ r. ⌜ Gives (find (now (list .entry)) number n) (now (out .entry)) r (now (out .exit)) ⌝ }
 {
-    let refusal = message::find_refusal(list, number, n);
+    let refusal = parameters::find_refusal(list, number, n);
     if refusal != 0 {
         return refused(refusal);
     }
-    answer::give(message::find_parameter(list, number, n), out)
+    answer::give(parameters::find_parameter(list, number, n), out)
 }
 
 // ---- objects
@@ -163,7 +162,7 @@ pub extern "C" fn abecs_write_object(tag: &[u8], value: &[u8], out: &mut [u8]) -
 pub extern "C" fn abecs_pick(tags: &[u8], list: &[u8], out: &mut [u8]) -> Answer
     ensures { λ r. ⌜ Gives (pick (now (tags .entry)) (now (list .entry))) (now (out .entry)) r (now (out .exit)) ⌝ }
 {
-    objects::pick(tags, list, out)
+    picking::pick(tags, list, out)
 }
 
 // ---- tables: a flag is 0 or 1; what is handed in as a flag counts as 1 unless it is 0
@@ -184,25 +183,18 @@ pub struct ClosedOf {
     pub records: usize,
 }
 
-// A flag as a byte.
-fn flag(b: bool) -> u8
-    ensures { λ r. ⌜ r ≡ flagOf b ⌝ }
-{
-    if b { 1 } else { 0 }
-}
-
 #[no_mangle]
 pub extern "C" fn abecs_check_store(store: &[u8], used: usize, records: usize, network: u8) -> u8
     ensures { λ r. ⌜ r ≡ flagOf (soundStore network used records (now (store .entry))) ⌝ }
 {
-    flag(tables::check_store(store, used, records, network))
+    flag(records::check_store(store, used, records, network))
 }
 
 #[no_mangle]
 pub extern "C" fn abecs_block_good(block: &[u8]) -> u8
     ensures { λ r. ⌜ r ≡ flagOf (goodBlock (now (block .entry))) ⌝ }
 {
-    flag(tables::block_good(block))
+    flag(records::block_good(block))
 }
 
 #[no_mangle]
@@ -261,7 +253,7 @@ pub extern "C" fn abecs_close_load(
 pub extern "C" fn abecs_zero_store(store: &mut [u8])
     ensures { λ _. ⌜ now (store .exit) ≡ zeros (length (now (store .entry))) ⌝ }
 {
-    tables::zero_store(store)
+    records::zero_store(store)
 }
 
 // No array crosses by value, so the versions are brought up to date where they stand; of other sizes than 1,000 and ten bytes nothing changes.

@@ -9,7 +9,7 @@ use lib.Dec.{leb, eqb}
 use borrow.Author.Tests.{eq-eqb, ne-eqb, eqb-true, le-leb, lt-leb, leb-true}
 use Rattle.answer.specs.Digits.{isDigit, digitOf, twoDigitsAt, threeAt}
 use Rattle.answer.proofs.Parts.{and-left, and-right, rest-part}
-use Rattle.tables.specs.Record.{goodBlock}
+use Rattle.records.specs.Record.{goodBlock}
 use Rattle.command.specs.Texts.{ascii, starts, allText}
 use Rattle.command.specs.Command.{networkAt, networkOf, gtsGood, tliGood, tlrGood}
 

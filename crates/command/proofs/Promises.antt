@@ -4,7 +4,7 @@ use mathlib.Core.Bool.{Bool}
 use mathlib.Core.List.{List, [], _∷_, _++_}
 use Prim.Native.Nat.{ℕ}
 use Rattle.answer.specs.Pieces.{piecesFrom, restFrom}
-use Rattle.tables.specs.Record.{startsRecord, recordIn, goodBlock}
+use Rattle.records.specs.Record.{startsRecord, recordIn, goodBlock}
 use Rattle.command.specs.declared.Command.{Command}
 use Rattle.command.specs.declared.Command.the-variants.{Opn, Gts, GtsWrong, Tli, TliWrong, Tlr, TlrWrong, Tle, Unknown}
 use Rattle.command.specs.Texts.{ascii, starts, allText}

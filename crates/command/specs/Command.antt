@@ -5,7 +5,7 @@ use mathlib.Core.List.{List}
 use lib.ListN.{length, getD, drop}
 use lib.Dec.{leb, eqb}
 use Rattle.answer.specs.Digits.{isDigit, twoDigitsAt, threeAt}
-use Rattle.tables.specs.Record.{goodBlock}
+use Rattle.records.specs.Record.{goodBlock}
 use Rattle.command.specs.declared.Command.{Command}
 use Rattle.command.specs.declared.Command.the-variants.{Opn, Gts, GtsWrong, Tli, TliWrong, Tlr, TlrWrong, Tle, Unknown}
 use Rattle.command.specs.Texts.{ascii, starts, allText}

@@ -2,7 +2,7 @@
 use answer::digits::digit_of;
 use answer::digits::is_digit;
 use answer::digits::is_text;
-use tables::block_good;
+use records::block_good;
 ghost use mathlib.Core.Path.{_≡_};
 ghost use mathlib.Core.Bool.{true};
 ghost use Rattle.answer.specs.Digits.{threeAt};

@@ -12,19 +12,21 @@ use Rattle.answer.specs.Pieces.{every}
 use Rattle.answer.proofs.Parts.{and-left, and-right}
 use Rattle.reception.specs.declared.Reception.{Reception}
 use Rattle.reception.specs.declared.Reception.the-variants.{Idle, InData, After13h, FirstCheck, SecondCheck}
-use Rattle.tables.specs.Store.{zeros, allZero}
-use Rattle.tables.proofs.Stores.{zeros-all}
+use Rattle.records.specs.Store.{zeros, allZero}
+use Rattle.records.proofs.Stores.{zeros-all}
 use Rattle.command.specs.Texts.{ascii, starts, allText}
 use Rattle.execution.specs.CommandTable.{same}
 use Rattle.execution.specs.Responses.{oneOf, sixBytes, givesVersion, isResponse}
 use Rattle.execution.specs.Stored.{storedOf}
 use Rattle.execution.proofs.Between.{Sized, LegalCore, core-back, legal-sized, legal-sound, sound-legal as tables-legal}
-use Rattle.device.specs.Machine.{Holding, Machine, isIdle}
+use Rattle.state.specs.State.{State, lineIn, storedIn, isIdle}
+use Rattle.state.specs.Sound.{isSized, lineSound, heldSound, sound}
+use Rattle.state.proofs.Accepting.{sized-both, Arrays, line-good, held-good, tables-good}
+use Rattle.device.specs.Machine.{Holding, Machine}
 use Rattle.device.specs.Machine.Holding.{nothing, holding}
-use Rattle.device.specs.State.{State, lineIn, storedIn, holdingIn, machineOf, heldOf, stateOf}
-use Rattle.device.specs.Sound.{isSized, lineSound, heldSound, sound}
+use Rattle.device.specs.Between.{holdingIn, machineOf, heldOf, stateOf}
 use Rattle.device.proofs.Replies.{Known, held-back, state-parts}
-use Rattle.device.proofs.Knowing.{Arrays, line-good, held-good, tables-good, sized-both, known}
+use Rattle.device.proofs.Knowing.{known}
 
 -- ---- from the state and back
 

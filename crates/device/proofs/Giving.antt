@@ -1,31 +1,29 @@
 -- What the public calls give: refused and unchanged, or what the machine's call leaves.
 use mathlib.Core.Path.{_≡_, refl, sym, ap, subst, _∙_}
-use mathlib.Core.Bool.{Bool, true, false, not, cond, false≢true}
+use mathlib.Core.Bool.{Bool, true, false}
 use mathlib.Core.List.{List, []}
 use Prim.Native.Nat.{ℕ, zero, suc, _≤_}
 use native.Mathlib.Omega.{arith}
 use lib.ListN.{length}
-use lib.Dec.{ltb}
-use borrow.Author.Tests.{ltb-false}
 use Rattle.answer.specs.Answers.{over}
 use Rattle.reception.specs.declared.Line.{Line}
 use Rattle.reception.specs.Reception.{idle}
 use Rattle.execution.specs.declared.Tables.{Tables}
 use Rattle.execution.specs.Promise.{Drops}
-use Rattle.device.specs.declared.Held.{Held}
-use Rattle.device.specs.declared.Device.{Device}
+use Rattle.state.specs.declared.Held.{Held}
+use Rattle.state.specs.declared.Device.{Device}
+use Rattle.state.specs.State.{State, stateAs, deviceAs, lineIn, withLine, heldAs, canResend}
+use Rattle.state.specs.Sound.{lineSound, heldSound, refusalOf}
+use Rattle.state.proofs.Accepting.{line-short}
 use Rattle.device.specs.declared.Received.{Received}
 use Rattle.device.specs.declared.Gathered.{Gathered}
 use Rattle.device.specs.declared.Replied.{Replied}
 use Rattle.device.specs.Events.Event.{timeout, restart}
-use Rattle.device.specs.State.{State, stateAs, deviceAs, lineIn, heldAs}
-use Rattle.device.specs.Sound.{isSized, lineSound, heldSound, sound, refusalOf}
 use Rattle.device.specs.Promise.{Left, afterPiece, afterEvent, unless, Gives, Answers}
-use Rattle.device.specs.Steps.{asksIn, Got, gathered, Gathers, withLine, canResend, Told′, repliedIn, Does}
+use Rattle.device.specs.Steps.{asksIn, Got, gathered, Gathers, Told′, repliedIn, Does}
 use Rattle.device.proofs.Calling.{gathered-within, gathered-asks}
 use Rattle.device.proofs.Replies.{Known}
 use Rattle.device.proofs.Leaving.{lineTo, gatheredIn, piece-asked, piece-silent, timeout-left, restart-left}
-use Rattle.device.proofs.Knowing.{line-short}
 
 -- ---- refused or not
 
@@ -43,22 +41,6 @@ refused-gives x left out (suc n) r e h f =
 pub good-gives : (x : State) (left : Left) (out : List ℕ) (n : ℕ) (r : Received) (out′ live′ loading′ : List ℕ) → n ≡ refusalOf (length out) x → n ≡ 0
     → Gives 0 left out r out′ live′ loading′ → Answers x left out r out′ live′ loading′
 good-gives x left out n r out′ live′ loading′ e h g = subst (λ (k : ℕ). Gives k (unless k x left) out r out′ live′ loading′) (sym h ∙ e) g
-
--- what is known then
-pub record Accepted (room : ℕ) (x : State) : Type 0 where
-  pub roomy : 64 ≤ room
-  pub sized : isSized x ≡ true
-  pub is-sound : sound x ≡ true
-
-pub accepted : (room : ℕ) (x : State) → refusalOf room x ≡ 0 → Accepted room x
-unfolding refusalOf
-accepted room x e = cases (ltb room 64) refl (isSized x) refl (sound x) refl e
-  where
-    cases : (a : Bool) → ltb room 64 ≡ a → (b : Bool) → isSized x ≡ b → (c : Bool) → sound x ≡ c → _≡_ {A = ℕ} (cond a 1 (cond (not b) 2 (cond (not c) 3 0))) 0 → Accepted room x
-    cases true p b q c r f = absurd (omega (arith, f))
-    cases false p false q c r f = absurd (omega (arith, f))
-    cases false p true q false r f = absurd (omega (arith, f))
-    cases false p true q true r f = record { roomy = ltb-false room 64 p; sized = q; is-sound = r }
 
 -- ---- a piece
 

@@ -8,13 +8,14 @@ use Rattle.reception.specs.Reception.{idle}
 use Rattle.execution.specs.Core.{withLoad}
 use Rattle.execution.specs.Core.Opening.{none}
 use Rattle.execution.specs.Promise.{droppedIn}
+use Rattle.state.specs.State.{State, stateAs, deviceAs, lineIn, storedIn, withLine, heldAs, canResend}
+use Rattle.state.specs.Sound.{heldSound}
 use Rattle.device.specs.Machine.{Called, step}
 use Rattle.device.specs.Machine.Holding.{nothing}
 use Rattle.device.specs.Events.Event.{timeout, restart}
-use Rattle.device.specs.State.{State, stateAs, deviceAs, lineIn, storedIn, machineOf, heldAs, stateOf}
-use Rattle.device.specs.Sound.{heldSound}
+use Rattle.device.specs.Between.{machineOf, stateOf}
 use Rattle.device.specs.Promise.{Left, afterPiece, afterEvent}
-use Rattle.device.specs.Steps.{asksIn, Got, gathered, withLine, canResend, withDevice, repliedIn}
+use Rattle.device.specs.Steps.{asksIn, Got, gathered, withDevice, repliedIn}
 use Rattle.device.proofs.Calling.{calledBy, call-gathered, gathered-asks}
 use Rattle.device.proofs.Replies.{Known, held-back, can-is, state-parts, known-line, replied-state, replied-reply}
 

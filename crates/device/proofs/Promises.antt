@@ -6,13 +6,14 @@ use mathlib.Core.List.{List, [], _∷_}
 use Prim.Native.Nat.{ℕ, zero, suc, _≤_}
 use native.Mathlib.Omega.{arith}
 use lib.ListN.{length}
-use Rattle.device.specs.declared.Device.{Device}
+use Rattle.state.specs.declared.Device.{Device}
+use Rattle.state.specs.State.{State}
+use Rattle.state.specs.Sound.{refusalOf}
 use Rattle.device.specs.declared.Received.{Received}
 use Rattle.device.specs.declared.Started.{Started}
 use Rattle.device.specs.Machine.{Machine, Stepped, Called, step, isNone, oneMore, call}
 use Rattle.device.specs.Events.Event.{byte}
-use Rattle.device.specs.State.{State, machineOf}
-use Rattle.device.specs.Sound.{refusalOf}
+use Rattle.device.specs.Between.{machineOf}
 use Rattle.device.specs.Promise.{Left, afterPiece, unless, Gives, Answers, Starts}
 
 -- ---- ONE RESULT: two results of a call that its promise allows for one entry are one

@@ -14,20 +14,21 @@ use Rattle.reception.specs.declared.Reception.{Reception}
 use Rattle.reception.specs.declared.Reception.the-variants.{Idle, InData, After13h, FirstCheck, SecondCheck}
 use Rattle.reception.specs.declared.Line.{Line}
 use Rattle.reception.specs.Reception.{lineOf, idle, taken}
-use Rattle.tables.specs.Store.{zeros, allZero}
-use Rattle.tables.proofs.Stores.{zeros-are}
+use Rattle.records.specs.Store.{zeros, allZero}
+use Rattle.records.proofs.Stores.{zeros-are}
 use Rattle.execution.specs.Core.{Core, withLoad}
 use Rattle.execution.specs.Core.Opening.{none}
 use Rattle.execution.specs.Execute.{execute, responseOf}
 use Rattle.execution.specs.Responses.{isResponse}
 use Rattle.execution.specs.Stored.{Stored, coreOf, storedOf}
 use Rattle.execution.specs.Promise.{droppedIn, executed, responded}
-use Rattle.device.specs.declared.Held.{Held}
+use Rattle.state.specs.declared.Held.{Held}
+use Rattle.state.specs.State.{State, stateAs, deviceAs, storedIn, withLine, withHeld, heldAs, canResend}
+use Rattle.state.specs.Sound.{heldSound}
 use Rattle.device.specs.Machine.{Holding, Stepped, goodPacket, payloadOf, runs, refuses, completes, cancels, again, takes}
 use Rattle.device.specs.Machine.Holding.{nothing, holding}
-use Rattle.device.specs.State.{State, stateAs, deviceAs, storedIn, holdingIn, machineOf, heldAs, heldOf, stateOf}
-use Rattle.device.specs.Sound.{heldSound}
-use Rattle.device.specs.Steps.{asksIn, withLine, withHeld, canResend, sentAgain, Told′, tells, withDevice, cancelled, resent, refused, ran, completed, repliedIn}
+use Rattle.device.specs.Between.{holdingIn, machineOf, heldOf, stateOf}
+use Rattle.device.specs.Steps.{asksIn, sentAgain, Told′, tells, withDevice, cancelled, resent, refused, ran, completed, repliedIn}
 use Rattle.device.proofs.Calling.{canSend}
 
 -- what holds of the tables of a state, and of the length of its held response

@@ -10,7 +10,7 @@ use lib.Dec.{leb, ltb, eqb}
 use borrow.Author.Tests.{eq-eqb, ne-eqb, leb-true, ltb-true}
 use Rattle.answer.proofs.Parts.{and-left, and-right}
 use Rattle.answer.specs.Answers.{over}
-use Rattle.tables.specs.Store.{zeros}
+use Rattle.records.specs.Store.{zeros}
 use Rattle.packet.specs.Packet.{packetOf}
 use Rattle.reception.specs.declared.Reception.{Reception}
 use Rattle.reception.specs.declared.Reception.the-variants.{Idle}
@@ -20,11 +20,11 @@ use Rattle.execution.specs.declared.Executed.{Executed}
 use Rattle.execution.specs.Stored.{Stored}
 use Rattle.execution.specs.Promise.{executed, responded, responseWith, Executes}
 use Rattle.execution.proofs.Executing.{responded-short, responded-some}
-use Rattle.device.specs.declared.Held.{Held}
+use Rattle.state.specs.declared.Held.{Held}
+use Rattle.state.specs.State.{State, deviceAs, storedIn, canResend}
 use Rattle.device.specs.declared.Replied.{Replied}
 use Rattle.device.specs.Machine.{goodPacket}
-use Rattle.device.specs.State.{State, deviceAs, storedIn}
-use Rattle.device.specs.Steps.{asksIn, payloadIn, canResend, Told′, tells, withDevice, cancelled, resent, refused, ran, completed, repliedIn, Says, Does, Sends}
+use Rattle.device.specs.Steps.{asksIn, payloadIn, Told′, tells, withDevice, cancelled, resent, refused, ran, completed, repliedIn, Says, Does, Sends}
 
 module _ (p : List ℕ) (s : Stored) (r : Executed) (live′ loading′ : List ℕ) (g : Executes p s r live′ loading′) where
   length-is : r .response .length ≡ length (responded p s)

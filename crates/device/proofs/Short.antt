@@ -12,16 +12,16 @@ use Rattle.reception.specs.declared.Reception.{Reception}
 use Rattle.reception.specs.declared.Reception.the-variants.{Idle, InData, After13h, FirstCheck, SecondCheck}
 use Rattle.execution.specs.Promise.{responded}
 use Rattle.execution.proofs.Executing.{responded-short}
+use Rattle.state.specs.State.{State, storedIn}
+use Rattle.state.specs.Sound.{heldSound, refusalOf}
+use Rattle.state.proofs.Accepting.{accepted, Arrays, held-short, held-good}
 use Rattle.device.specs.declared.Received.{Received}
 use Rattle.device.specs.Machine.{goodPacket}
-use Rattle.device.specs.State.{State, storedIn}
-use Rattle.device.specs.Sound.{heldSound, refusalOf}
 use Rattle.device.specs.Promise.{Left, afterPiece, unless, Answers}
 use Rattle.device.specs.Steps.{payloadIn, heldPayload, cancelled, resent, refused, ran, completed, repliedIn}
 use Rattle.device.proofs.Replies.{Known}
 use Rattle.device.proofs.Leaving.{lineTo, gatheredIn, piece-asked, piece-silent}
-use Rattle.device.proofs.Knowing.{Arrays, held-short, held-good, known}
-use Rattle.device.proofs.Giving.{accepted}
+use Rattle.device.proofs.Knowing.{known}
 
 packet-42 : (p : List ℕ) → length p ≤ 19 → length (packetOf p) ≤ 42
 packet-42 p h = omega (arith, stuff-two p, packet-long p)

@@ -1,7 +1,6 @@
 -- In the order of reading. `Steps` serves the private functions alone: no promise cites it.
 pub mod Events
 pub mod Machine
-pub mod State
-pub mod Sound
+pub mod Between
 pub mod Promise
 pub mod Steps

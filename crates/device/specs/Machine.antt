@@ -6,8 +6,6 @@ use lib.ListN.{length, take, set, replicate}
 use lib.Dec.{leb, ltb, eqb}
 use Rattle.crc16.specs.Crc.{check}
 use Rattle.packet.specs.Packet.{packetOf}
-use Rattle.reception.specs.declared.Reception.{Reception}
-use Rattle.reception.specs.declared.Reception.the-variants.{Idle, InData, After13h, FirstCheck, SecondCheck}
 use Rattle.reception.specs.declared.Line.{Line}
 use Rattle.reception.specs.declared.Told.{Told}
 use Rattle.reception.specs.declared.Told.the-variants.{Nothing, Payload, Complete}
@@ -18,6 +16,7 @@ use Rattle.device.specs.Events.Event.{byte, timeout, restart}
 use Rattle.execution.specs.Core.{Core, withLoad, freshCore}
 use Rattle.execution.specs.Core.Opening.{none}
 use Rattle.execution.specs.Execute.{execute, responseOf}
+use Rattle.state.specs.State.{isIdle}
 
 -- the held response: its payload, and how often its packet was sent again
 pub data Holding : Type 0 where
@@ -90,13 +89,6 @@ cancels m = record { machine = holds m nothing; reply = 0x04 ∷ [] }
 unfoldable pub again : Machine → Holding → Stepped
 again m nothing = silent m
 again m (holding p n) = cond (ltb n 3) (record { machine = holds m (holding p (n + 1)); reply = packetOf p }) (silent m)
-
-abbrev pub isIdle : Reception → Bool
-isIdle Idle = true
-isIdle InData = false
-isIdle After13h = false
-isIdle FirstCheck = false
-isIdle (SecondCheck a) = false
 
 -- CAN and NAK are such only between packets; every other byte is reception's
 unfoldable pub takes : Machine → ℕ → Stepped

@@ -5,13 +5,13 @@ use mathlib.Core.Bool.{cond}
 use mathlib.Core.List.{List, []}
 use lib.ListN.{length}
 use Rattle.answer.specs.Answers.{over}
-use Rattle.device.specs.declared.Device.{Device}
+use Rattle.state.specs.State.{State, stateAs}
+use Rattle.state.specs.Sound.{isSized, refusalOf}
 use Rattle.device.specs.declared.Received.{Received}
 use Rattle.device.specs.declared.Started.{Started}
 use Rattle.device.specs.Events.{Event}
 use Rattle.device.specs.Machine.{Machine, fresh, step, call}
-use Rattle.device.specs.State.{State, stateAs, machineOf, stateOf}
-use Rattle.device.specs.Sound.{isSized, refusalOf}
+use Rattle.device.specs.Between.{machineOf, stateOf}
 
 -- what a call leaves, how many bytes it took, and what it replied
 pub record Left : Type 0 where

@@ -4,7 +4,7 @@ use mathlib.Core.Path.{_≡_}
 use mathlib.Core.Bool.{Bool, true, false, _&&_, _||_, cond}
 use mathlib.Core.List.{List, [], _∷_}
 use lib.ListN.{length, take, set}
-use lib.Dec.{leb, ltb, eqb}
+use lib.Dec.{eqb}
 use Rattle.answer.specs.Answers.{over}
 use Rattle.packet.specs.Packet.{packetOf}
 use Rattle.reception.specs.declared.Reception.{Reception}
@@ -16,12 +16,12 @@ use Rattle.reception.specs.declared.Took.{Took}
 use Rattle.reception.specs.Reception.{idle, taken}
 use Rattle.execution.specs.declared.Tables.{Tables}
 use Rattle.execution.specs.Promise.{executed, responded}
-use Rattle.device.specs.declared.Held.{Held}
-use Rattle.device.specs.declared.Device.{Device}
+use Rattle.state.specs.declared.Held.{Held}
+use Rattle.state.specs.declared.Device.{Device}
+use Rattle.state.specs.State.{State, stateAs, deviceAs, storedIn, withLine, withHeld, heldAs}
 use Rattle.device.specs.declared.Gathered.{Gathered}
 use Rattle.device.specs.declared.Replied.{Replied}
 use Rattle.device.specs.Machine.{goodPacket}
-use Rattle.device.specs.State.{State, stateAs, deviceAs, lineIn, storedIn, heldAs}
 
 -- ---- gathering bytes up to the one that is answered
 
@@ -61,21 +61,12 @@ pub record Gathers (g : Got) (r : Gathered) (store′ : List ℕ) : Type 0 where
 
 -- ---- replying
 
-abbrev pub withLine : Device → Line → List ℕ → Device
-withLine d line store = deviceAs line store (d .held) (d .tables)
-
-abbrev pub withHeld : Device → Held → Device
-withHeld d h = deviceAs (lineIn d) (d .store) h (d .tables)
-
 abbrev pub payloadIn : Device → List ℕ
 payloadIn d = take (d .count) (d .store)
 
 -- the held response's payload
 abbrev pub heldPayload : Held → List ℕ
 heldPayload h = take (h .response .length) (h .response .payload)
-
-abbrev pub canResend : Held → Bool
-canResend h = leb 1 (h .response .length) && ltb (h .times) 3
 
 abbrev pub sentAgain : Held → Held
 sentAgain h = record { response = h .response; times = h .times + 1 }

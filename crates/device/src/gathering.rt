@@ -1,5 +1,4 @@
 // Bytes that are not answered: they move the line and fill the reception store, and no other part of the device.
-use crate::Device;
 use crate::Gathered;
 use reception::Line;
 use reception::Reception;
@@ -7,37 +6,7 @@ use reception::Told;
 use reception::take;
 ghost use mathlib.Core.Path.{_≡_};
 ghost use mathlib.Core.Bool.{true};
-ghost use Rattle.device.specs.State.{lineIn};
-ghost use Rattle.device.specs.Steps.{asksIn, placedIn, gathered, Gathers, withLine};
-
-// Where the line is.
-pub(crate) fn line_of(device: Device) -> Line
-    ensures { λ r. ⌜ r ≡ lineIn device ⌝ }
-{
-    let state = device.reception;
-    Line {
-        state,
-        spoiled: device.spoiled,
-        count: device.count,
-    }
-}
-
-// The device with another line and reception store. An enum is no field to be stored to, so the struct is made anew.
-pub(crate) fn with_line(device: Device, line: Line, store: [u8; 2048]) -> Device
-    ensures { λ r. ⌜ r ≡ withLine device line store ⌝ }
-{
-    let held = device.held;
-    let tables = device.tables;
-    let reception = line.state;
-    Device {
-        reception,
-        spoiled: line.spoiled,
-        count: line.count,
-        store,
-        held,
-        tables,
-    }
-}
+ghost use Rattle.device.specs.Steps.{asksIn, placedIn, gathered, Gathers};
 
 // Whether `b` is answered: CAN between packets, NAK too where there is something to send again, and a second check byte.
 fn asks(line: Line, b: u8, resend: bool) -> bool

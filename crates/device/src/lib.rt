@@ -1,50 +1,34 @@
 // The device end of the line (scope paper, sections Reception, Commands and Numbered refusals of calls).
 mod gathering;
-mod refusing;
 mod replying;
 
-use execution::Response;
-use execution::Tables;
 use execution::drop_load;
 use execution::fresh_tables;
 use gathering::gather;
-use gathering::line_of;
-use gathering::with_line;
 use reception::Line;
 use reception::Reception;
 use reception::idle_line;
-use refusing::can_resend;
-use refusing::refusal_of;
-use refusing::sizes_good;
-use replying::nothing_held;
+use records::zero_store;
 use replying::reply_to;
-use tables::zero_store;
+pub use state::Device;
+pub use state::Held;
+use state::can_resend;
+use state::line_of;
+use state::nothing_held;
+use state::refusal_of;
+use state::sizes_good;
+use state::with_line;
 ghost use mathlib.Core.Path.{_≡_};
 ghost use mathlib.Core.Bool.{true};
 ghost use mathlib.Core.List.{[]};
 ghost use Prim.Native.Nat.{_≤_};
 ghost use lib.ListN.{length};
+ghost use Rattle.state.specs.State.{stateAs};
+ghost use Rattle.state.specs.Sound.{isSized, sound};
 ghost use Rattle.device.specs.Machine.{fresh};
 ghost use Rattle.device.specs.Events.Event.{timeout as timeoutEvent, restart as restartEvent};
-ghost use Rattle.device.specs.State.{stateAs, stateOf};
-ghost use Rattle.device.specs.Sound.{isSized, sound};
+ghost use Rattle.device.specs.Between.{stateOf};
 ghost use Rattle.device.specs.Promise.{afterPiece, afterEvent, Gives, Answers, Starts};
-
-// The held response, and how often its packet was sent again. With nothing held every field is 0.
-pub struct Held {
-    pub response: Response,
-    pub times: u8,
-}
-
-// The device. The live and the loading store are lent to each call.
-pub struct Device {
-    pub reception: Reception,
-    pub spoiled: bool,
-    pub count: usize,
-    pub store: [u8; 2048],
-    pub held: Held,
-    pub tables: Tables,
-}
 
 // The device after a call, the refusal's number or 0, how many bytes of the piece were taken, and how many were written to the start of `out`.
 pub struct Received {

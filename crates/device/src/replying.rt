@@ -1,13 +1,15 @@
 // The bytes that are answered: CAN, NAK, and a second check byte (scope paper, section Reception).
-use crate::Device;
-use crate::Held;
 use crate::Replied;
-use crate::gathering::with_line;
 use execution::Response;
 use execution::execute;
 use packet::write_packet;
 use reception::Reception;
 use reception::idle_line;
+use state::Device;
+use state::Held;
+use state::nothing_held;
+use state::with_held;
+use state::with_line;
 ghost use mathlib.Core.Path.{_≡_};
 ghost use mathlib.Core.Bool.{true};
 ghost use mathlib.Core.List.{[], _∷_};
@@ -15,40 +17,10 @@ ghost use Prim.Native.Nat.{_≤_, _<_};
 ghost use lib.ListN.{length, take};
 ghost use Rattle.answer.specs.Answers.{over};
 ghost use Rattle.packet.specs.Packet.{packetOf};
+ghost use Rattle.state.specs.State.{stateAs, canResend};
 ghost use Rattle.device.specs.Machine.{goodPacket};
-ghost use Rattle.device.specs.State.{stateAs, heldAs};
-ghost use Rattle.device.specs.Steps.{asksIn, canResend, withHeld, cancelled, resent, ran, completed, repliedIn, Says, Does, Sends};
+ghost use Rattle.device.specs.Steps.{asksIn, cancelled, resent, ran, completed, repliedIn, Says, Does, Sends};
 ghost use Rattle.device.specs.Steps.{refused as refusedState};
-
-// What the field holds with nothing held.
-pub(crate) fn nothing_held() -> Held
-    ensures { λ r. ⌜ r ≡ heldAs [] 0 ⌝ }
-{
-    Held {
-        response: Response {
-            payload: [0u8; 19],
-            length: 0,
-        },
-        times: 0,
-    }
-}
-
-// The device with another held response.
-fn with_held(device: Device, held: Held) -> Device
-    ensures { λ r. ⌜ r ≡ withHeld device held ⌝ }
-{
-    let reception = device.reception;
-    let store = device.store;
-    let tables = device.tables;
-    Device {
-        reception,
-        spoiled: device.spoiled,
-        count: device.count,
-        store,
-        held,
-        tables,
-    }
-}
 
 // Writes the response's packet to the start of `out`, and tells its length.
 fn send(response: Response, out: &mut [u8]) -> usize

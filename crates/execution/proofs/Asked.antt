@@ -8,7 +8,7 @@ use lib.Dec.{leb, eqb}
 use borrow.Author.Tests.{eqb-true, leb-true}
 use Rattle.answer.specs.Digits.{isDigit, threeAt}
 use Rattle.answer.proofs.Parts.{and-left, and-right}
-use Rattle.tables.specs.Record.{goodBlock, recordsOf}
+use Rattle.records.specs.Record.{goodBlock, recordsOf}
 use Rattle.tables.specs.Loading.{taken, takenOf}
 use Rattle.command.specs.declared.Command.{Command}
 use Rattle.command.specs.declared.Command.the-variants.{Opn, Gts, GtsWrong, Tli, TliWrong, Tlr, TlrWrong, Tle, Unknown}

@@ -10,11 +10,10 @@ use borrow.Author.Tests.{ltb-true, lt-ltb, eqb-true, not-true}
 use Rattle.answer.specs.Pieces.{every}
 use Rattle.answer.proofs.Parts.{and-left, and-right}
 use Rattle.answer.proofs.Pieces.{pieces-flatten}
-use Rattle.tables.specs.Record.{recordIn, recs, takes}
-use Rattle.tables.specs.Store.{zeros, storeOf, allZero, soundStore}
-use Rattle.tables.specs.Loading.{fits}
-use Rattle.tables.proofs.Records.{AllRecords, record-sizes}
-use Rattle.tables.proofs.Stores.{sound-as, as-sound, fits-bytes, front-store, store-long, zeros-are, zeros-all}
+use Rattle.records.specs.Record.{recordIn, recs, takes}
+use Rattle.records.specs.Store.{zeros, storeOf, fits, allZero, soundStore}
+use Rattle.records.proofs.Records.{AllRecords, record-sizes}
+use Rattle.records.proofs.Stores.{sound-as, as-sound, fits-bytes, front-store, store-long, zeros-are, zeros-all}
 use Rattle.command.specs.Texts.{allText}
 use Rattle.execution.specs.declared.OpenLoad.{OpenLoad}
 use Rattle.execution.specs.Core.{Loading, Opening, Core}

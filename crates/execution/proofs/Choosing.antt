@@ -6,9 +6,9 @@ use Prim.Native.Nat.{ℕ, _-_}
 use lib.ListN.{length, take, drop}
 use borrow.Author.Tests.{eq-eqb, ne-eqb}
 use Rattle.answer.proofs.Parts.{rest-part}
+use Rattle.records.specs.Store.{zeros}
 use Rattle.tables.specs.declared.Load.{Load}
 use Rattle.tables.specs.declared.Closed.{Closed}
-use Rattle.tables.specs.Store.{zeros}
 use Rattle.tables.specs.Loading.{Adds}
 use Rattle.tables.specs.Closing.{Closes, newVersion, newVersions}
 use Rattle.command.specs.declared.Command.{Command}

@@ -8,11 +8,11 @@ use lib.ListN.{length, take, drop, replicate, length-append, length-take, length
 use lib.Dec.{ltb}
 use Rattle.answer.specs.Pieces.{every}
 use Rattle.answer.proofs.Parts.{and-left, and-right, flatten-append}
-use Rattle.tables.specs.Record.{recs, goodBlock, recordsOf}
-use Rattle.tables.specs.Store.{zeros, storeOf, soundStore}
-use Rattle.tables.specs.Loading.{fits, taken, Kept, Stocked, stockAll}
+use Rattle.records.specs.Record.{recs, goodBlock, recordsOf}
+use Rattle.records.specs.Store.{zeros, storeOf, fits, soundStore}
+use Rattle.records.proofs.Stores.{sound-as, used-part, fits-both, store-none}
+use Rattle.tables.specs.Loading.{taken, Kept, Stocked, stockAll}
 use Rattle.tables.specs.Closing.{notNamed, newSet, newBytes, newRecords, newVersion, newVersions}
-use Rattle.tables.proofs.Stores.{sound-as, used-part, fits-both, store-none}
 use Rattle.tables.proofs.Loads.{Holds, holds-all}
 use Rattle.tables.proofs.NewSets.{closes-is}
 use Rattle.command.specs.declared.Command.{Command}

@@ -11,7 +11,7 @@ use borrow.Author.Tests.{eq-eqb}
 use Rattle.answer.specs.Digits.{isText}
 use Rattle.answer.specs.Laid.{pasted}
 use Rattle.answer.proofs.Parts.{and-left, and-right}
-use Rattle.tables.specs.Record.{goodBlock}
+use Rattle.records.specs.Record.{goodBlock}
 use Rattle.tables.specs.Closing.{newSet, noVersion, newVersion, newVersions}
 use Rattle.tables.proofs.Versions.{many}
 use Rattle.tables.proofs.Networks.{versions-long}

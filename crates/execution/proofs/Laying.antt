@@ -10,7 +10,7 @@ use Rattle.answer.specs.Answers.{over}
 use Rattle.answer.specs.Laid.{PutIf, pasted}
 use Rattle.answer.proofs.Laid.{put-fits, pasted-start, over-more, over-long}
 use Rattle.answer.proofs.Parts.{piece-part}
-use Rattle.tables.specs.Store.{zeros}
+use Rattle.records.specs.Store.{zeros}
 use Rattle.command.specs.Texts.{ascii}
 use Rattle.execution.specs.declared.Tables.{Tables}
 use Rattle.execution.specs.declared.Executed.{Executed}

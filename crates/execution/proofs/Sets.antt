@@ -7,13 +7,13 @@ use native.Mathlib.Omega.{arith}
 use lib.ListN.{length, take}
 use Rattle.answer.specs.Pieces.{every}
 use Rattle.answer.proofs.Parts.{and-right}
+use Rattle.records.specs.Record.{recs, takes, goodBlock, recordsOf}
+use Rattle.records.specs.Store.{zeros, storeOf, fits}
+use Rattle.records.proofs.Records.{AllRecords}
+use Rattle.records.proofs.Stores.{fits-both}
 use Rattle.tables.specs.declared.Closed.{Closed}
-use Rattle.tables.specs.Record.{recs, takes, goodBlock, recordsOf}
-use Rattle.tables.specs.Store.{zeros, storeOf}
-use Rattle.tables.specs.Loading.{fits, taken, takenOf, Kept, keepAll, Stocked, stockAll, Adds}
+use Rattle.tables.specs.Loading.{taken, takenOf, Kept, keepAll, Stocked, stockAll, Adds}
 use Rattle.tables.specs.Closing.{newSet, newBytes, newRecords, closes, Closes}
-use Rattle.tables.proofs.Records.{AllRecords}
-use Rattle.tables.proofs.Stores.{fits-both}
 use Rattle.tables.proofs.Loads.{add-keeps, add-sound-as}
 use Rattle.tables.proofs.NewSets.{live-sound-as}
 use Rattle.execution.specs.Core.{Loading, Core}

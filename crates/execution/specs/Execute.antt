@@ -2,8 +2,9 @@
 use Prim.Native.Nat.{ℕ}
 use mathlib.Core.Bool.{Bool, true, false, not, _&&_, cond}
 use mathlib.Core.List.{List, []}
-use Rattle.tables.specs.Record.{recordsOf}
-use Rattle.tables.specs.Loading.{fits, taken, Kept, keepAll}
+use Rattle.records.specs.Record.{recordsOf}
+use Rattle.records.specs.Store.{fits}
+use Rattle.tables.specs.Loading.{taken, Kept, keepAll}
 use Rattle.tables.specs.Closing.{newSet, newVersion, newVersions}
 use Rattle.command.specs.declared.Command.{Command}
 use Rattle.command.specs.declared.Command.the-variants.{Opn, Gts, GtsWrong, Tli, TliWrong, Tlr, TlrWrong, Tle, Unknown}

@@ -4,9 +4,9 @@ use mathlib.Core.Path.{_≡_}
 use mathlib.Core.Bool.{Bool, true, false, cond}
 use mathlib.Core.List.{List, _++_}
 use lib.ListN.{length}
+use Rattle.records.specs.Store.{zeros}
 use Rattle.tables.specs.declared.Extent.{Extent}
 use Rattle.tables.specs.declared.Load.{Load}
-use Rattle.tables.specs.Store.{zeros}
 use Rattle.tables.specs.Loading.{Stocked, stocked}
 use Rattle.tables.specs.Closing.{newBytes, newRecords, closes, newVersion, newVersions}
 use Rattle.command.specs.declared.Command.{Command}

@@ -5,10 +5,10 @@ use mathlib.Core.Bool.{Bool, true, false, not, _&&_, _||_, cond}
 use mathlib.Core.List.{List, [], _++_, flatten}
 use lib.ListN.{length, take, drop}
 use lib.Dec.{ltb, eqb}
+use Rattle.records.specs.Record.{recs}
+use Rattle.records.specs.Store.{zeros, storeOf, allZero, soundStore}
 use Rattle.tables.specs.declared.Extent.{Extent}
 use Rattle.tables.specs.declared.Load.{Load}
-use Rattle.tables.specs.Record.{recs}
-use Rattle.tables.specs.Store.{zeros, storeOf, allZero, soundStore}
 use Rattle.tables.specs.Loading.{Kept}
 use Rattle.command.specs.Texts.{allText}
 use Rattle.execution.specs.declared.OpenLoad.{OpenLoad}

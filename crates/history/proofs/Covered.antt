@@ -6,11 +6,12 @@ use Prim.Native.Nat.{ℕ, _≤_}
 use native.Mathlib.Omega.{arith}
 use lib.ListN.{length, take, drop, replicate, length-replicate}
 use Rattle.answer.specs.Answers.{over}
+use Rattle.state.specs.State.{State}
 use Rattle.device.specs.declared.Received.{Received}
 use Rattle.device.specs.Events.{Event}
 use Rattle.device.specs.Events.Event.{byte, timeout, restart}
 use Rattle.device.specs.Machine.{Machine, Called, fresh, step, isNone, call}
-use Rattle.device.specs.State.{State, stateOf}
+use Rattle.device.specs.Between.{stateOf}
 use Rattle.device.specs.Promise.{Left, afterPiece, afterEvent, unless, Gives, Answers}
 use Rattle.device.proofs.Back.{Legal, machine-back}
 use Rattle.history.specs.Calls.{bytesThen, Calls}

@@ -3,17 +3,18 @@ use mathlib.Core.Path.{_≡_, refl, sym, ap, subst, _∙_}
 use mathlib.Core.List.{List, [], _++_}
 use Prim.Native.Nat.{ℕ, _≤_}
 use lib.ListN.{length, replicate, length-replicate}
+use Rattle.records.specs.Store.{storeOf}
 use Rattle.tables.specs.declared.Extent.{Extent}
-use Rattle.tables.specs.Store.{storeOf}
 use Rattle.reception.specs.Reception.{idle}
 use Rattle.execution.specs.Core.{Core, freshCore}
 use Rattle.execution.specs.Stored.{Stored, extentOf, coreOf, storedOf}
 use Rattle.execution.proofs.Between.{core-back}
+use Rattle.state.specs.State.{State, stateAs, storedIn}
+use Rattle.state.specs.Sound.{refusalOf}
 use Rattle.device.specs.declared.Started.{Started}
 use Rattle.device.specs.Events.{Event}
 use Rattle.device.specs.Machine.{Machine, fresh}
-use Rattle.device.specs.State.{State, stateAs, storedIn, stateOf}
-use Rattle.device.specs.Sound.{refusalOf}
+use Rattle.device.specs.Between.{stateOf}
 use Rattle.device.specs.Promise.{Starts}
 use Rattle.device.proofs.Back.{Legal}
 use Rattle.history.specs.Ran.{Ran, ranIn, seenOf, ranOf}

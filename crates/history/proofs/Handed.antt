@@ -4,13 +4,14 @@ use mathlib.Core.List.{List, [], _∷_, _++_, append-nil, append-assoc}
 use Prim.Native.Nat.{ℕ, zero, suc}
 use lib.ListN.{length, take, drop}
 use lib.Seq.{take-at}
-use Rattle.device.specs.declared.Device.{Device}
+use Rattle.state.specs.declared.Device.{Device}
+use Rattle.state.specs.State.{State, stateAs}
+use Rattle.state.specs.Sound.{refusalOf}
 use Rattle.device.specs.declared.Received.{Received}
 use Rattle.device.specs.Events.{Event}
 use Rattle.device.specs.Events.Event.{timeout, restart}
 use Rattle.device.specs.Machine.{Machine, Stepped, step, call}
-use Rattle.device.specs.State.{State, stateAs, machineOf, stateOf}
-use Rattle.device.specs.Sound.{refusalOf}
+use Rattle.device.specs.Between.{machineOf, stateOf}
 use Rattle.device.specs.Promise.{Left, afterPiece, afterEvent, unless, Gives}
 use Rattle.device.proofs.Back.{Legal, machine-back}
 use Rattle.history.specs.Calls.{bytesThen, stillThere, Calls}

@@ -17,12 +17,13 @@ use Rattle.reception.specs.declared.Took.{Took}
 use Rattle.reception.specs.Reception.{lineOf, tookOf, idle, started, goingOn, spoiledIn, placed, fromIdle, fromData, from13h, takenIn, taken}
 use Rattle.execution.proofs.Executing.{fresh-legal as core-fresh}
 use Rattle.execution.proofs.Keeping.{drop-legal, execute-legal, response-good}
+use Rattle.state.specs.State.{isIdle}
+use Rattle.state.specs.Sound.{refusalOf}
 use Rattle.device.specs.Events.{Event}
 use Rattle.device.specs.Events.Event.{byte, timeout, restart}
-use Rattle.device.specs.Machine.{Holding, Machine, Stepped, fresh, on, holds, silent, payloadOf, goodPacket, runs, refuses, completes, hears, cancels, again, isIdle, takes, restarted, step}
+use Rattle.device.specs.Machine.{Holding, Machine, Stepped, fresh, on, holds, silent, payloadOf, goodPacket, runs, refuses, completes, hears, cancels, again, takes, restarted, step}
 use Rattle.device.specs.Machine.Holding.{nothing, holding}
-use Rattle.device.specs.State.{stateOf}
-use Rattle.device.specs.Sound.{refusalOf}
+use Rattle.device.specs.Between.{stateOf}
 use Rattle.device.proofs.Back.{LegalLine, LegalHolding, Legal, legal-size, legal-good}
 use Rattle.history.specs.Reading.{run}
 

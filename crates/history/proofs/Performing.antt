@@ -17,9 +17,10 @@ use Rattle.reception.specs.Reception.{idle, started, lineOf, goingOn, spoiledIn
 use Rattle.execution.specs.Core.{Core, withLoad}
 use Rattle.execution.specs.Core.Opening.{none}
 use Rattle.execution.specs.Execute.{execute, responseOf}
+use Rattle.state.specs.State.{isIdle}
 use Rattle.device.specs.Events.{Event}
 use Rattle.device.specs.Events.Event.{byte, timeout, restart}
-use Rattle.device.specs.Machine.{Holding, Machine, Stepped, on, holds, silent, goodPacket, runs, refuses, completes, hears, cancels, again, isIdle, takes, restarted as restartedOf, step}
+use Rattle.device.specs.Machine.{Holding, Machine, Stepped, on, holds, silent, goodPacket, runs, refuses, completes, hears, cancels, again, takes, restarted as restartedOf, step}
 use Rattle.device.specs.Machine.Holding.{nothing, holding}
 use Rattle.device.specs.Steps.{placedIn}
 use Rattle.history.specs.Text.{Item}

@@ -5,7 +5,7 @@ use Rattle.answer.specs.Pieces.{piecesFrom, restFrom, every}
 use Rattle.crc16.specs.Crc.{_⊕_, zeros, generator, divide, remainder, odd, bits, bitsOf, number, check}
 use Rattle.packet.specs.Substitution.{sent, stuff, pairThen, plainThen, unstuff}
 use Rattle.packet.specs.Packet.{packetOf, before, readPacket}
-use Rattle.message.specs.Parameters.{parameterIn}
+use Rattle.parameters.specs.Parameters.{parameterIn}
 use Rattle.message.specs.Blocks.{blockIn, filled, firstIn}
 use Rattle.message.specs.Message.{headGood, readMessage, messageOf, writeMessage}
 use Rattle.objects.specs.Tag.{tagSize, sizeOfTwo}

@@ -8,8 +8,9 @@ use lib.ListN.{length, length-append}
 use lib.Dec.{leb}
 use borrow.Author.Tests.{leb-false, lt-leb}
 use Rattle.answer.proofs.Parts.{flatten-append}
-use Rattle.tables.specs.Record.{recordsOf}
-use Rattle.tables.specs.Loading.{fits, taken, Kept, keepOne, keepAll}
+use Rattle.records.specs.Record.{recordsOf}
+use Rattle.records.specs.Store.{fits}
+use Rattle.tables.specs.Loading.{taken, Kept, keepOne, keepAll}
 use Rattle.tables.specs.Closing.{notNamed, newSet, newVersion, newVersions}
 use Rattle.command.specs.declared.Command.{Command}
 use Rattle.command.specs.declared.Command.the-variants.{Opn, Gts, GtsWrong, Tli, TliWrong, Tlr, TlrWrong, Tle, Unknown}

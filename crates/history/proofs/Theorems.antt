@@ -2,11 +2,12 @@
 use mathlib.Core.Path.{_≡_, refl, sym, ap, _∙_}
 use mathlib.Core.List.{List, [], append-nil}
 use Prim.Native.Nat.{ℕ, _≤_}
+use Rattle.state.specs.State.{State, stateAs}
+use Rattle.state.specs.Sound.{refusalOf}
 use Rattle.device.specs.declared.Started.{Started}
 use Rattle.device.specs.Events.{Event}
 use Rattle.device.specs.Machine.{fresh}
-use Rattle.device.specs.State.{State, stateAs, stateOf}
-use Rattle.device.specs.Sound.{refusalOf}
+use Rattle.device.specs.Between.{stateOf}
 use Rattle.device.specs.Promise.{startRefusal, startedFrom, Starts}
 use Rattle.history.specs.Calls.{Calls}
 use Rattle.history.specs.Reading.{run}

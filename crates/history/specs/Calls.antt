@@ -3,11 +3,11 @@ use Prim.Native.Nat.{ℕ, zero, suc}
 use mathlib.Core.Path.{_≡_}
 use mathlib.Core.List.{List, [], _∷_, _++_}
 use lib.ListN.{take, drop}
-use Rattle.device.specs.declared.Device.{Device}
+use Rattle.state.specs.declared.Device.{Device}
+use Rattle.state.specs.State.{State, stateAs}
 use Rattle.device.specs.declared.Received.{Received}
 use Rattle.device.specs.Events.{Event}
 use Rattle.device.specs.Events.Event.{byte, timeout, restart}
-use Rattle.device.specs.State.{State, stateAs}
 use Rattle.device.specs.Promise.{Left, afterPiece, afterEvent, Answers}
 
 -- bytes, and then the rest of a history

@@ -9,9 +9,10 @@ use Rattle.reception.specs.declared.Told.{Told}
 use Rattle.reception.specs.declared.Told.the-variants.{Nothing, Payload, Complete}
 use Rattle.reception.specs.declared.Took.{Took}
 use Rattle.reception.specs.Reception.{idle, taken}
+use Rattle.state.specs.State.{isIdle}
 use Rattle.device.specs.Events.{Event}
 use Rattle.device.specs.Events.Event.{byte, timeout, restart}
-use Rattle.device.specs.Machine.{Machine, Stepped, goodPacket, isIdle, silent, step}
+use Rattle.device.specs.Machine.{Machine, Stepped, goodPacket, silent, step}
 use Rattle.device.specs.Steps.{placedIn}
 use Rattle.history.specs.Text.{Item}
 use Rattle.history.specs.Text.Item.{good, bad, can, nak}

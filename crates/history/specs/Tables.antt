@@ -3,7 +3,7 @@ use Prim.Native.Nat.{ℕ}
 use mathlib.Core.Bool.{Bool, false, cond}
 use mathlib.Core.List.{List, [], _∷_}
 use lib.ListN.{replicate}
-use Rattle.tables.specs.Loading.{fits}
+use Rattle.records.specs.Store.{fits}
 use Rattle.tables.specs.Closing.{newSet, newVersion, newVersions}
 use Rattle.history.specs.Loads.{Load, Open}
 use Rattle.history.specs.Loads.Open.{noLoad, load}

@@ -6,9 +6,9 @@ use native.Mathlib.Omega.{arith}
 use lib.ListN.{length, take, drop, length-append, length-drop}
 use lib.Seq.{length-take-le}
 use Rattle.answer.specs.Answers.{over}
+use Rattle.state.specs.State.{State}
+use Rattle.state.specs.Sound.{refusalOf}
 use Rattle.device.specs.declared.Received.{Received}
-use Rattle.device.specs.State.{State}
-use Rattle.device.specs.Sound.{refusalOf}
 use Rattle.device.specs.Promise.{Left, unless, Answers}
 
 -- a call writes within its buffer: what it says is laid over the buffer's start, and the buffer keeps its length

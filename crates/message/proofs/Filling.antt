@@ -11,12 +11,12 @@ use borrow.Author.Tests.{le-leb, lt-leb, leb-true, leb-false, lt-ltb, ltb-true}
 use Rattle.answer.specs.Pieces.{pieceThen, piecesFrom, rest, restFrom, every}
 use Rattle.answer.specs.Laid.{PieceAt}
 use Rattle.answer.proofs.Pieces.{piece-more, piece-none, pieces-cons, rest-cons, from-le, flatten-pieces, all-append}
-use Rattle.message.specs.Parameters.{parameterIn, parameters, wholeList, dataOf}
+use Rattle.parameters.specs.Parameters.{parameterIn, parameters, wholeList, dataOf}
 use Rattle.message.specs.Blocks.{blockOf, filled, firstIn, fill, greedy}
 use Rattle.message.specs.Message.{short}
 use Rattle.message.specs.Steps.{EndsAt}
 use Rattle.answer.proofs.Parts.{and-left, and-right, flatten-append, every-append}
-use Rattle.message.proofs.Parameters.{parameter-le, parameter-sizes, piece-long, AllP, parameters-all, parameters-flat, whole-flat, flat-parameters, whole-some, both-parameters, AllWhole, join-whole}
+use Rattle.parameters.proofs.Parameters.{parameter-le, parameter-sizes, piece-long, AllP, parameters-all, parameters-flat, whole-flat, flat-parameters, whole-some, both-parameters, AllWhole, join-whole}
 use Rattle.message.proofs.Blocks.{Sized}
 
 -- ---- how much goes into the first block

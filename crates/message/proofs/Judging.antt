@@ -11,7 +11,7 @@ use Rattle.answer.specs.Answers.Result.{Good, Refused}
 use Rattle.answer.specs.Laid.{pasted, Puts}
 use Rattle.answer.specs.Pieces.{every}
 use Rattle.answer.proofs.Laid.{pasted-start, pasted-join, puts-long}
-use Rattle.message.specs.Parameters.{parameters, wholeList}
+use Rattle.parameters.specs.Parameters.{parameters, wholeList}
 use Rattle.message.specs.Blocks.{blocksOf, blockOf, fill}
 use Rattle.message.specs.Message.{headLength, headGood, framed, listRead, readMessage, messageOf, short, messageSized, writeMessage}
 use Rattle.answer.proofs.Parts.{rest-part}

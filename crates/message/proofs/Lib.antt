@@ -1,8 +1,7 @@
 -- `Theorems` say what holds of messages and of the calls, `Samples` the paper's examples; the others serve the proofs.
 pub mod Putting
-pub mod Parameters
-pub mod Finding
 pub mod Blocks
+pub mod Short
 pub mod Filling
 pub mod Heads
 pub mod Judging

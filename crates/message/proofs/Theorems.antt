@@ -4,22 +4,19 @@ use mathlib.Core.Bool.{Bool, true, false, _&&_, cond}
 use mathlib.Core.List.{List, _++_, map, flatten}
 use Prim.Native.Nat.{ℕ, _≤_}
 use native.Mathlib.Omega.{arith}
-use lib.ListN.{length, take, drop, take-append-drop}
+use lib.ListN.{length, take, take-append-drop}
 use lib.Seq.{take-at, drop-at}
 use lib.Dec.{ltb}
-use denote.Ref.{RefT, ptr, now}
 use borrow.Author.Tests.{le-ltb, ltb-false}
 use Rattle.answer.specs.declared.Answer.{Answer}
 use Rattle.answer.specs.Answers.{Result, Gives, answerOf, over}
 use Rattle.answer.specs.Answers.Result.{Good, Refused}
 use Rattle.answer.specs.Pieces.{whole, every}
 use Rattle.answer.proofs.Promises.{Gives-one, same-good, not-good, Numbered, success}
-use Rattle.message.specs.Parameters.{parameters, wholeList}
-use Rattle.message.specs.Finding.{find, startOf, Handed, refusalOf}
+use Rattle.parameters.specs.Parameters.{parameters, wholeList}
 use Rattle.message.specs.Blocks.{blockIn, blocksOf, blockOf, fill, greedy}
 use Rattle.message.specs.Message.{headLength, headGood, headOf, bodyOf, readMessage, messageOf, short, messageSized, writeMessage}
-use Rattle.message.proofs.Parameters.{all-whole, join-whole}
-use Rattle.message.proofs.Finding.{found-there}
+use Rattle.parameters.proofs.Parameters.{all-whole, join-whole}
 use Rattle.message.proofs.Blocks.{written-whole, written-blocks, body-again}
 use Rattle.message.proofs.Filling.{fill-sized, fill-lists, fill-greedy, flatten-fill, fill-again, join-short}
 use Rattle.message.proofs.Heads.{head-long}
@@ -33,19 +30,6 @@ read-message-one response m = Gives-one (readMessage response m)
 pub write-message-one : (head : List ℕ) (response : Bool) (list out : List ℕ) (r s : Answer) (o o′ : List ℕ)
     → Gives (writeMessage head response list) out r o → Gives (writeMessage head response list) out s o′ → (r ≡ s) × (o ≡ o′)
 write-message-one head response list = Gives-one (writeMessage head response list)
-
--- the bytes of the part and its place in memory are settled; what is left of a reference is the name of its borrow, which no code sees
-pub find-parameter-one : (list : RefT (List ℕ)) (number n : ℕ) (r s : RefT (List ℕ)) → Handed list number n r → Handed list number n s → (now r ≡ now s) × (ptr r ≡ ptr s)
-find-parameter-one list number n r s e f = (e .bytes ∙ sym (f .bytes), e .place ∙ sym (f .place))
-
-pub find-refusal-one : (list : List ℕ) (number n r s : ℕ) → r ≡ refusalOf (find list number n) → s ≡ refusalOf (find list number n) → r ≡ s
-find-refusal-one list number n r s e f = e ∙ sym f
-
--- ---- finding: the part that is handed back is the data that is found
-
--- the bytes of the list from `startOf` on are the data
-pub part-found : (list : List ℕ) (number n : ℕ) (d : List ℕ) → find list number n ≡ Good d → take (length d) (drop (startOf list number n) list) ≡ d
-part-found = found-there
 
 -- ---- what a call that succeeds was given
 

@@ -6,7 +6,7 @@ use lib.ListN.{length, getD, drop}
 use lib.Dec.{leb, ltb}
 use Rattle.answer.specs.Digits.{isDigit, threeAt}
 use Rattle.answer.specs.Pieces.{pieces}
-use Rattle.message.specs.Parameters.{parameterIn, parameters}
+use Rattle.parameters.specs.Parameters.{parameterIn, parameters}
 
 -- xs starts with a block's length: three digits, 001 to 999
 abbrev pub isLength : List ℕ → Bool

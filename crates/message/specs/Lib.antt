@@ -1,6 +1,4 @@
 -- In the order of reading. `Steps` serves the private functions alone: no promise cites it.
-pub mod Parameters
-pub mod Finding
 pub mod Blocks
 pub mod Message
 pub mod Steps

@@ -8,7 +8,7 @@ use Rattle.answer.specs.Answers.{Result}
 use Rattle.answer.specs.Answers.Result.{Good, Refused}
 use Rattle.answer.specs.Digits.{isDigit}
 use Rattle.answer.specs.Pieces.{whole, every}
-use Rattle.message.specs.Parameters.{parameters, wholeList, dataOf}
+use Rattle.parameters.specs.Parameters.{parameters, wholeList, dataOf}
 use Rattle.message.specs.Blocks.{blockIn, blocksOf, blockOf, fill}
 
 -- ---- the head: three name bytes, 41h to 5Ah, and in a response three status digits

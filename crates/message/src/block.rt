@@ -1,7 +1,7 @@
 // The blocks after a message's head, read: whether they are good, and what they hold.
-use crate::parameter::whole_list;
 use answer::digits::digit_of;
 use answer::digits::is_digit;
+use parameters::whole_list;
 ghost use mathlib.Core.Path.{_≡_};
 ghost use mathlib.Core.List.{flatten};
 ghost use Prim.Native.Nat.{_≤_, _<_};
@@ -9,7 +9,7 @@ ghost use lib.ListN.{length};
 ghost use Rattle.answer.specs.Answers.{over};
 ghost use Rattle.answer.specs.Laid.{PieceAt};
 ghost use Rattle.answer.specs.Pieces.{whole, every};
-ghost use Rattle.message.specs.Parameters.{wholeList};
+ghost use Rattle.parameters.specs.Parameters.{wholeList};
 ghost use Rattle.answer.specs.Digits.{threeAt};
 ghost use Rattle.message.specs.Blocks.{isLength, blockIn, blocksOf};
 

@@ -1,12 +1,32 @@
 // Blocks, filled with the parameters of a list and written.
-use crate::parameter::parameter_at;
+use parameters::parameter_at;
 ghost use mathlib.Core.Path.{_≡_};
 ghost use mathlib.Core.List.{map, flatten};
 ghost use Prim.Native.Nat.{_+_, _≤_};
 ghost use lib.ListN.{length};
 ghost use Rattle.answer.specs.Laid.{Puts};
+ghost use Rattle.answer.specs.Pieces.{every};
+ghost use Rattle.parameters.specs.Parameters.{parameters};
 ghost use Rattle.message.specs.Blocks.{blockOf, firstIn, fill};
+ghost use Rattle.message.specs.Message.{short};
 ghost use Rattle.message.specs.Steps.{EndsAt};
+
+// Whether each parameter of `list` goes into one block.
+pub(crate) fn all_short(list: &[u8]) -> bool
+    ensures { λ r. ⌜ r ≡ every short (parameters (now (list .entry))) ⌝ }
+{
+    let mut at = 0;
+    loop {
+        let n = parameter_at(list, at);
+        if n == 0 {
+            return true;
+        }
+        if 999 < n {
+            return false;
+        }
+        at += n;
+    }
+}
 
 // Where the block that starts with the parameter at `start` is full, or the list at its end.
 fn block_end(list: &[u8], start: usize) -> usize

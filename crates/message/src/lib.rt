@@ -1,20 +1,18 @@
-// Messages of a head and blocks, and the parameter lists that the blocks hold (scope paper, section Blocks and parameters).
+// Messages of a head and blocks that hold a parameter list (scope paper, section Blocks and parameters).
 mod block;
 mod fill;
 mod head;
-mod parameter;
-mod search;
 
 use answer::Answer;
 use answer::refused;
+use parameters::whole_list;
 ghost use mathlib.Core.Path.{_≡_};
 ghost use mathlib.Core.Bool.{true};
 ghost use Prim.Native.Nat.{_≤_};
 ghost use lib.ListN.{length};
 ghost use Rattle.answer.specs.Answers.{Gives};
 ghost use Rattle.answer.specs.Pieces.{every};
-ghost use Rattle.message.specs.Parameters.{parameters, wholeList};
-ghost use Rattle.message.specs.Finding.{find, Handed, refusalOf};
+ghost use Rattle.parameters.specs.Parameters.{parameters, wholeList};
 ghost use Rattle.message.specs.Message.{headLength, framed, listRead, readMessage, short, messageOf, messageSized, writeMessage};
 
 // ---- the reader
@@ -70,10 +68,10 @@ pub fn write_message(head: &[u8], response: bool, list: &[u8], out: &mut [u8]) -
     if !head::head_good(head, response) {
         return refused(20);
     }
-    if !parameter::whole_list(list) {
+    if !whole_list(list) {
         return refused(21);
     }
-    if !parameter::all_short(list) {
+    if !fill::all_short(list) {
         return refused(22);
     }
     write_good(head, list, out)
@@ -100,24 +98,4 @@ fn write_good(head: &[u8], list: &[u8], out: &mut [u8]) -> Answer
         refusal: 0,
         length: n,
     }
-}
-
-// ---- finding a parameter
-
-// The data of the nth parameter of this number, counted from 1, as a part of `list` itself; an empty part where `find_refusal` refuses.
-pub fn find_parameter<'a>(list: &'a [u8], number: u16, n: usize) -> &'a [u8]
-    ensures { λ r. ⌜ Handed (list .entry) number n r ⌝ }
-{
-    let place = search::find_place(list, number, n);
-    let a = place.start;
-    let e = place.end;
-    &list[a..e]
-}
-
-// The number of the refusal of `find_parameter` for the same inputs, 0 where it found one. Refusals in this order: 21, 24.
-pub fn find_refusal(list: &[u8], number: u16, n: usize) -> u8
-    ensures { λ r. ⌜ r ≡ refusalOf (find (now (list .entry)) number n) ⌝ }
-{
-    let place = search::find_place(list, number, n);
-    place.refusal
 }

@@ -4,19 +4,17 @@ use mathlib.Core.Bool.{Bool, true, false, cond}
 use mathlib.Core.List.{List, _++_}
 use Prim.Native.Nat.{ℕ, suc, _+_, _-_, _≤_, _<_}
 use native.Mathlib.Omega.{arith}
-use lib.ListN.{length, take, drop, length-append, length-take, length-drop}
+use lib.ListN.{length, take, drop, length-append, length-take}
 use lib.Seq.{drop-append-le, take-take}
 use lib.Dec.{leb, eqb, eqb·suc-zero}
 use borrow.Author.Tests.{eq-eqb, ne-eqb, le-leb, lt-leb, leb-true, eqb-true, eqb-false}
 use Rattle.objects.specs.declared.Form.{Form}
-use Rattle.objects.specs.declared.ObjectRead.{ObjectRead}
 use Rattle.objects.specs.Tag.{tagSize}
 use Rattle.objects.specs.LengthForm.{formOf, formAt}
 use Rattle.objects.specs.Object.{Object, objectOf, headerSize, valueSize, objectRefusal, objectSize, badRead, readOf, objectIn}
-use Rattle.objects.specs.Steps.{Head}
 use Rattle.answer.proofs.Parts.{drop-take}
 use Rattle.objects.proofs.TagSizes.{tag-le, tag-append, tag-take}
-use Rattle.objects.proofs.LengthForms.{form-le, form-append, form-take}
+use Rattle.objects.proofs.LengthForms.{form-append, form-take}
 
 -- ---- by the tests of the code
 
@@ -71,6 +69,16 @@ sound-refusal xs g = refusal-0 xs (g .tag) (g .form) (g .fits)
 pub size-good : (xs : List ℕ) → objectRefusal xs ≡ 0 → objectSize xs ≡ headerSize xs + valueSize xs
 unfolding objectSize
 size-good xs e = simp e
+
+pub size-bad : (xs : List ℕ) → (objectRefusal xs ≡ 0 → ⊥) → objectSize xs ≡ 0
+unfolding objectSize
+size-bad xs h = simp (ne-eqb (objectRefusal xs) 0 h)
+
+pub size-some : (xs : List ℕ) → objectRefusal xs ≡ 0 → objectSize xs ≡ 0 → ⊥
+size-some xs e z =
+    let g = sound-parts xs e in
+    let n = size-good xs e in
+    g .tag (omega arith)
 
 pub size-refusal : (xs : List ℕ) → (objectSize xs ≡ 0 → ⊥) → objectRefusal xs ≡ 0
 unfolding objectSize
@@ -179,56 +187,6 @@ module _ (xs : List ℕ) (e : objectRefusal xs ≡ 0) where
 
       w : take (tagSize xs) (take n xs) ≡ take (tagSize xs) xs
       w = take-take (tagSize xs) n xs (omega arith)
-
--- ---- the code's steps, from a tag of size t and a form f after it
-
-head-bad : (xs : List ℕ) (n : ℕ) (r : ObjectRead) → objectRefusal xs ≡ suc n → r ≡ badRead (suc n) → Head xs r
-head-bad xs n r e q = rw q (record { is = sym (read-bad xs n e); tag = omega arith; header = omega arith; whole = omega arith; value = omega arith })
-
-pub head-30 : (xs : List ℕ) (t : ℕ) (r : ObjectRead) → t ≡ tagSize xs → t ≡ 0 → r ≡ badRead 30 → Head xs r
-head-30 xs t r et h q = head-bad xs 29 r (refusal-30 xs (sym et ∙ h)) q
-
-module _ (xs : List ℕ) (t : ℕ) (f : Form) (et : t ≡ tagSize xs) (ef : f ≡ formAt (drop t xs)) (some : t ≡ 0 → ⊥) where
-  there : f ≡ formAt (drop (tagSize xs) xs)
-  there = ef ∙ ap (λ (n : ℕ). formAt (drop n xs)) et
-
-  size : f .size ≡ formAt (drop (tagSize xs) xs) .size
-  size = ap (λ (r : Form). r .size) there
-
-  value : f .value ≡ valueSize xs
-  value = ap (λ (r : Form). r .value) there
-
-  pub header-le : t + f .size ≤ length xs
-  header-le =
-      let l = tag-le xs in
-      let m = form-le (drop t xs) in
-      let s = ap (λ (r : Form). r .size) ef in
-      omega (arith, simp length-drop at m)
-
-  pub head-31 : (r : ObjectRead) → f .size ≡ 0 → r ≡ badRead 31 → Head xs r
-  head-31 r h q = head-bad xs 30 r (refusal-31 xs (λ z. some (et ∙ z)) (sym size ∙ h)) q
-
-  pub head-32 : (r : ObjectRead) → (f .size ≡ 0 → ⊥) → length xs - (t + f .size) < f .value → r ≡ badRead 32 → Head xs r
-  head-32 r h l q =
-      let s = size in
-      let v = value in
-      let m : length xs < headerSize xs + valueSize xs = omega arith in
-      head-bad xs 31 r (refusal-32 xs (λ z. some (et ∙ z)) (λ z. h (s ∙ z)) m) q
-
-  pub head-good : (f .size ≡ 0 → ⊥) → f .value < 65536 → f .value ≤ length xs - (t + f .size)
-      → Head xs (record { refusal = 0; tag = t; header = t + f .size; whole = t + f .size + f .value })
-  head-good h b l =
-      let s = size in
-      let v = value in
-      let k = header-le in
-      let m : headerSize xs + valueSize xs ≤ length xs = omega arith in
-      record {
-        is = rw (s, v, et) (sym (read-good xs (refusal-0 xs (λ z. some (et ∙ z)) (λ z. h (s ∙ z)) m)));
-        tag = omega arith;
-        header = omega arith;
-        whole = omega arith;
-        value = omega arith;
-      }
 
 -- ---- an object's length
 

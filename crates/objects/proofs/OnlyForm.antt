@@ -4,7 +4,7 @@ use mathlib.Core.Bool.{Bool, true, false, cond}
 use mathlib.Core.List.{List, [], _∷_, _++_}
 use Prim.Native.Nat.{ℕ, zero, suc, _+_, _*_, _/_, _%_, _≤_, _<_}
 use native.Mathlib.Omega.{arith}
-use lib.ListN.{take, drop}
+use lib.ListN.{getD, take, drop}
 use lib.Dec.{ltb, eqb}
 use borrow.Author.Tests.{ltb-true, ltb-false, eqb-true}
 use Rattle.objects.specs.declared.Form.{Form}
@@ -15,6 +15,11 @@ use Rattle.objects.proofs.LengthForms.{form-one, form-two, form-three}
 abbrev pub AllBytes : List ℕ → Type 0
 AllBytes [] = Unit {0}
 AllBytes (x ∷ xs) = (x < 256) × AllBytes xs
+
+-- what is known of each element of a lent slice
+pub bytes-known : (xs : List ℕ) → ((i : ℕ) → getD xs i 0 < 256) → AllBytes xs
+bytes-known [] h = tt
+bytes-known (x ∷ xs) h = (h 0, bytes-known xs (λ i. h (suc i)))
 
 pub bytes-drop : (n : ℕ) (xs : List ℕ) → AllBytes xs → AllBytes (drop n xs)
 bytes-drop zero xs b = b

@@ -6,34 +6,31 @@ use Prim.Native.Nat.{ℕ, _+_, _-_, _≤_}
 use native.Mathlib.Omega.{arith}
 use lib.ListN.{length, take, drop, length-append}
 use lib.Seq.{length-take-le, take-at, drop-at}
-use lib.Dec.{leb, eqb}
-use borrow.Author.Tests.{le-ltb, eqb-true, eqb-false}
+use lib.Dec.{leb}
+use borrow.Author.Tests.{le-ltb}
 use Rattle.answer.specs.declared.Answer.{Answer}
 use Rattle.answer.specs.Answers.{Result, Gives, answerOf, over}
 use Rattle.answer.specs.Answers.Result.{Good, Refused}
-use Rattle.answer.proofs.Promises.{Gives-one, same-good, not-good, Numbered, success}
+use Rattle.answer.proofs.Promises.{Gives-one, Numbered, success}
 use Rattle.objects.specs.declared.ObjectRead.{ObjectRead}
 use Rattle.objects.specs.Tag.{tagSize, isTag}
 use Rattle.objects.specs.LengthForm.{formOf}
-use Rattle.objects.specs.Object.{objectOf, writeObject, headerSize, valueSize, objectRefusal, objectSize, readOf, objectsOf, objectsRefusal, tagsRefusal}
-use Rattle.objects.specs.Pick.{pickedOf, pick}
+use Rattle.objects.specs.Object.{objectOf, writeObject, headerSize, valueSize, objectRefusal, objectSize, readOf}
 use Rattle.objects.proofs.Objects.{read-good, size-good, size-le}
-use Rattle.objects.proofs.Lists.{read-refusal}
-use Rattle.objects.proofs.Walking.{pick-tags, pick-objects, pick-good}
+use Rattle.objects.proofs.Reading.{read-refusal}
 use Rattle.objects.proofs.OnlyForm.{AllBytes}
 use Rattle.objects.proofs.RoundTrip.{Fit, write-gives, fit-writes, written-read, read-written, read-fit}
-use Rattle.objects.proofs.Withheld.{NoneWithheld, never-withheld}
 
 -- ---- ONE RESULT: two results of a call that its promise allows for one entry are one
+
+pub tag-size-one : (p : List ℕ) (r s : ℕ) → r ≡ tagSize p → s ≡ tagSize p → r ≡ s
+tag-size-one p r s e f = e ∙ sym f
 
 pub read-object-one : (input : List ℕ) (r s : ObjectRead) → r ≡ readOf input → s ≡ readOf input → r ≡ s
 read-object-one input r s p q = p ∙ sym q
 
 pub write-object-one : (tag value out : List ℕ) (r s : Answer) (o o′ : List ℕ) → Gives (writeObject tag value) out r o → Gives (writeObject tag value) out s o′ → (r ≡ s) × (o ≡ o′)
 write-object-one tag value = Gives-one (writeObject tag value)
-
-pub pick-one : (tags objects out : List ℕ) (r s : Answer) (o o′ : List ℕ) → Gives (pick tags objects) out r o → Gives (pick tags objects) out s o′ → (r ≡ s) × (o ≡ o′)
-pick-one tags objects = Gives-one (pick tags objects)
 
 -- ---- the refusal number 0 is a success
 
@@ -45,22 +42,6 @@ write-numbered tag value = cases (isTag tag) (leb (length value) 65535)
     cases true true = tt
     cases true false = λ e. omega arith
     cases false b = λ e. omega arith
-
--- the picker refuses with a number other than 0, or both lists are good and it gives what is picked
-pick-either : (tags objects : List ℕ) (P : Result → Type 0) → ((n : ℕ) → (n ≡ 0 → ⊥) → P (Refused n))
-    → (tagsRefusal tags ≡ 0 → objectsRefusal objects ≡ 0 → P (Good (pickedOf tags objects))) → P (pick tags objects)
-pick-either tags objects P bad good = first (eqb (tagsRefusal tags) 0) refl
-  where
-    second : tagsRefusal tags ≡ 0 → (b : Bool) → eqb (objectsRefusal objects) 0 ≡ b → P (pick tags objects)
-    second t true e = let o = eqb-true (objectsRefusal objects) 0 e in subst P (sym (pick-good tags objects t o)) (good t o)
-    second t false e = let n = eqb-false (objectsRefusal objects) 0 e in subst P (sym (pick-objects tags objects t (objectsRefusal objects) refl n)) (bad (objectsRefusal objects) n)
-
-    first : (b : Bool) → eqb (tagsRefusal tags) 0 ≡ b → P (pick tags objects)
-    first true e = second (eqb-true (tagsRefusal tags) 0 e) (eqb (objectsRefusal objects) 0) refl
-    first false e = let n = eqb-false (tagsRefusal tags) 0 e in subst P (sym (pick-tags tags objects (tagsRefusal tags) refl n)) (bad (tagsRefusal tags) n)
-
-pub pick-numbered : (tags objects : List ℕ) → Numbered (pick tags objects)
-pick-numbered tags objects = pick-either tags objects Numbered (λ n h. h) (λ t o. tt)
 
 -- ---- WRITE, THEN READ: the lengths that are read tell the tag and the value apart
 
@@ -126,27 +107,3 @@ module _ (input : List ℕ) (bytes : AllBytes input) (r : ObjectRead) (is : r �
       let t = le-ltb (length out) (length (take (r .whole) input)) (omega arith) in
       let w = subst (λ (x : Result). Gives x out a out′) writes g in
       (w .answer ∙ rw t refl, w .bytes ∙ rw t refl)
-
--- ---- PICK: a success, and what it wrote
-
-pub pick-gives : (tags objects s : List ℕ) → pick tags objects ≡ Good s → (tagsRefusal tags ≡ 0) × (objectsRefusal objects ≡ 0) × (s ≡ pickedOf tags objects)
-pick-gives tags objects s =
-    pick-either tags objects (λ (r : Result). r ≡ Good s → (tagsRefusal tags ≡ 0) × (objectsRefusal objects ≡ 0) × (s ≡ pickedOf tags objects))
-    (λ n h e. absurd (not-good e)) (λ t o e. (t, o, sym (same-good e)))
-
-module _ (tags objects out : List ℕ) (r : Answer) (out′ : List ℕ) (w : Gives (pick tags objects) out r out′) (z : r .refusal ≡ 0) where
-  picks : (objectsRefusal objects ≡ 0) × (take (r .length) out′ ≡ pickedOf tags objects)
-  picks =
-      let d = success (pick tags objects) out r out′ (pick-numbered tags objects) w z in
-      let g = pick-gives tags objects (d .given) (d .is) in
-      (g .1, d .bytes ∙ g .2)
-
-  -- what stands at the start of the buffer is what the definition picks
-  pub pick-writes : take (r .length) out′ ≡ pickedOf tags objects
-  pick-writes = picks .1
-
-  -- and reads as a list of objects of which none is withheld
-  pub pick-withholds : AllBytes objects → (objectsRefusal (take (r .length) out′) ≡ 0) × NoneWithheld (objectsOf (take (r .length) out′))
-  pick-withholds b =
-      let n = never-withheld tags objects b (picks .0) in
-      (ap objectsRefusal pick-writes ∙ n .0, subst NoneWithheld (ap objectsOf (sym pick-writes)) (n .1))

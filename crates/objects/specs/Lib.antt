@@ -2,5 +2,4 @@
 pub mod Tag
 pub mod LengthForm
 pub mod Object
-pub mod Pick
 pub mod Steps

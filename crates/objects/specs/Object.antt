@@ -1,12 +1,11 @@
--- Objects, lists of objects and tag lists (scope paper, sections Data objects and Numbered refusals of calls).
+-- Objects (scope paper, sections Data objects and Numbered refusals of calls).
 use Prim.Native.Nat.{ℕ, _+_}
 use mathlib.Core.Bool.{cond}
-use mathlib.Core.List.{List, [], _∷_, _++_, map}
+use mathlib.Core.List.{List, _++_}
 use lib.ListN.{length, take, drop}
 use lib.Dec.{leb, eqb}
 use Rattle.answer.specs.Answers.{Result}
 use Rattle.answer.specs.Answers.Result.{Good, Refused}
-use Rattle.answer.specs.Pieces.{pieces, rest}
 use Rattle.objects.specs.declared.ObjectRead.{ObjectRead}
 use Rattle.objects.specs.Tag.{tagSize, isTag}
 use Rattle.objects.specs.LengthForm.{formOf, formAt}
@@ -58,34 +57,3 @@ readOf xs =
 -- the object whose bytes are xs
 unfoldable pub objectIn : List ℕ → Object
 objectIn xs = record { tag = take (tagSize xs) xs; value = drop (headerSize xs) xs }
-
--- ---- lists
-
--- what is wrong where a list stops being pieces; 0 where nothing is left
-abbrev pub faultIn : (List ℕ → ℕ) → List ℕ → ℕ
-faultIn refusal [] = 0
-faultIn refusal (x ∷ xs) = refusal (x ∷ xs)
-
--- the objects of a list, one after another
-abbrev pub objectsOf : List ℕ → List Object
-objectsOf xs = map objectIn (pieces objectSize xs)
-
--- the first bad object in order decides
-abbrev pub objectsRefusal : List ℕ → ℕ
-objectsRefusal xs = faultIn objectRefusal (rest objectSize xs)
-
--- the tags of a tag list, one after another
-abbrev pub tagsOf : List ℕ → List (List ℕ)
-tagsOf xs = pieces tagSize xs
-
--- what is no tag is 30
-abbrev pub tagRefusal : List ℕ → ℕ
-tagRefusal xs = cond (eqb (tagSize xs) 0) 30 0
-
-abbrev pub tagsRefusal : List ℕ → ℕ
-tagsRefusal xs = faultIn tagRefusal (rest tagSize xs)
-
--- the bytes of objects one after another
-abbrev pub written : List Object → List ℕ
-written [] = []
-written (o ∷ os) = objectOf (o .tag) (o .value) ++ written os

@@ -1,59 +1,10 @@
 -- What the private functions come to. No public promise cites it, and no reader has to believe it.
-use Prim.Native.Nat.{ℕ, _+_, _-_, _≤_, _<_}
-use mathlib.Core.Path.{_≡_}
-use mathlib.Core.Bool.{Bool, true, cond}
-use mathlib.Core.List.{List, []}
-use lib.ListN.{length, take, drop}
-use Rattle.answer.specs.declared.Answer.{Answer}
-use Rattle.answer.specs.Answers.{within, answerOf, over}
-use Rattle.answer.specs.Answers.Result.{Good}
-use Rattle.answer.specs.Pieces.{rest}
-use Rattle.objects.specs.declared.ObjectRead.{ObjectRead}
-use Rattle.objects.specs.Tag.{tagSize}
-use Rattle.objects.specs.Object.{objectOf, objectSize, objectIn, readOf}
-use Rattle.objects.specs.Pick.{shown, pickedOf}
-
--- ---- reading
-
--- r is what stands at the start of xs, with bounds that follow for bytes
-pub record Head (xs : List ℕ) (r : ObjectRead) : Type 0 where
-  pub is : r ≡ readOf xs
-  pub tag : r .tag ≤ r .header
-  pub header : r .header ≤ r .whole
-  pub whole : r .whole ≤ length xs
-  pub value : r .whole - r .header < 65536
-
--- at i of xs stands a piece of n bytes
-pub record Piece (size : List ℕ → ℕ) (xs : List ℕ) (i n : ℕ) : Type 0 where
-  pub is : n ≡ size (drop i xs)
-  pub some : n ≡ 0 → ⊥
-  pub within : i + n ≤ length xs
-
--- r is the object at j of xs
-pub record ObjectAt (xs : List ℕ) (j : ℕ) (r : ObjectRead) : Type 0 where
-  pub head : Head (drop j xs) r
-  pub piece : Piece objectSize xs j (r .whole)
-
--- what is written of the object r at j of xs
-abbrev pub shownAt : List ℕ → ℕ → ObjectRead → List ℕ
-shownAt xs j r = shown (objectIn (take (r .whole) (drop j xs)))
-
--- ---- writing
+use Prim.Native.Nat.{ℕ, _+_, _≤_}
+use mathlib.Core.List.{List}
+use lib.ListN.{length}
+use Rattle.objects.specs.Object.{objectOf}
 
 -- there is room at `at` for the object of this tag and value, which can be written
 pub record Room (out : List ℕ) (at : ℕ) (tag value : List ℕ) : Type 0 where
   pub small : length value ≤ 65535
   pub fits : at + length (objectOf tag value) ≤ length out
-
--- ---- the walk over tags and objects, which goes once to measure and once to write
-
--- both lists are whole, and there is room for what is picked, if the walk writes it
-pub record WholeLists (tags objects out : List ℕ) (writing : Bool) : Type 0 where
-  pub tags-whole : rest tagSize tags ≡ []
-  pub objects-whole : rest objectSize objects ≡ []
-  pub fits : writing ≡ true → length (pickedOf tags objects) ≤ length out
-
--- the answer is that of a call that gives s; s is laid over the start of `out`, if the walk writes it
-pub record Walks (s out : List ℕ) (writing : Bool) (r : Answer) (out′ : List ℕ) : Type 0 where
-  pub answer : r ≡ answerOf (within (length out) (Good s))
-  pub bytes : out′ ≡ cond writing (over s out) out

@@ -1,14 +1,14 @@
 // Length forms, read and written (scope paper, section Data objects).
 use crate::Form;
 ghost use mathlib.Core.Path.{_≡_};
-ghost use Prim.Native.Nat.{_<_, _≤_};
+ghost use Prim.Native.Nat.{_≤_};
 ghost use lib.ListN.{length};
 ghost use Rattle.answer.specs.Laid.{PutIf};
 ghost use Rattle.objects.specs.LengthForm.{formAt, after81, after82, formOf};
 
 // The form that starts with 81h, by what stands after that byte.
 fn after_81(p: &[u8]) -> Form
-    ensures { λ r. ⌜ (r ≡ after81 (now (p .entry))) × (r .value < 65536) ⌝ }
+    ensures { λ r. ⌜ r ≡ after81 (now (p .entry)) ⌝ }
 {
     if p.len() == 0 {
         return Form { size: 0, value: 0 };
@@ -25,7 +25,7 @@ fn after_81(p: &[u8]) -> Form
 
 // The form that starts with 82h, by what stands after that byte.
 fn after_82(p: &[u8]) -> Form
-    ensures { λ r. ⌜ (r ≡ after82 (now (p .entry))) × (r .value < 65536) ⌝ }
+    ensures { λ r. ⌜ r ≡ after82 (now (p .entry)) ⌝ }
 {
     if p.len() < 2 {
         return Form { size: 0, value: 0 };
@@ -39,7 +39,7 @@ fn after_82(p: &[u8]) -> Form
 
 // The length form that `p` starts with.
 pub(crate) fn form_at(p: &[u8]) -> Form
-    ensures { λ r. ⌜ (r ≡ formAt (now (p .entry))) × (r .value < 65536) ⌝ }
+    ensures { λ r. ⌜ r ≡ formAt (now (p .entry)) ⌝ }
 {
     if p.len() == 0 {
         return Form { size: 0, value: 0 };

@@ -1,7 +1,6 @@
-// EMV data objects: one read, one written, and objects picked from a list (scope paper, section Data objects).
+// EMV data objects: one read, and one written (scope paper, section Data objects).
 mod forms;
-mod picking;
-mod tags;
+pub mod tags;
 
 use answer::Answer;
 use answer::refused;
@@ -11,8 +10,7 @@ ghost use lib.ListN.{length};
 ghost use Rattle.answer.specs.Answers.{Gives};
 ghost use Rattle.answer.specs.Laid.{Puts};
 ghost use Rattle.objects.specs.Object.{readOf, badRead, objectOf, writeObject};
-ghost use Rattle.objects.specs.Pick.{pick};
-ghost use Rattle.objects.specs.Steps.{Head, Room};
+ghost use Rattle.objects.specs.Steps.{Room};
 
 // A length form: how many bytes it has, 0 where there is none, and the length that it tells.
 struct Form {
@@ -41,22 +39,22 @@ fn no_object(number: u8) -> ObjectRead
     }
 }
 
-// The object at the start of `p`.
-pub(crate) fn first_object(p: &[u8]) -> ObjectRead
-    ensures { λ r. ⌜ Head (now (p .entry)) r ⌝ }
+// Reads the one object at the start of `input`; what follows it does not matter. Refusals in this order: 30, 31, 32.
+pub fn read_object(input: &[u8]) -> ObjectRead
+    ensures { λ r. ⌜ r ≡ readOf (now (input .entry)) ⌝ }
 {
-    let tag = tags::tag_size(p);
+    let tag = tags::tag_size(input);
     if tag == 0 {
         return no_object(30);
     }
-    let form = forms::form_at(&p[tag..]);
+    let form = forms::form_at(&input[tag..]);
     let size = form.size;
     if size == 0 {
         return no_object(31);
     }
     let header = tag + size;
     let value = form.value;
-    if p.len() - header < value {
+    if input.len() - header < value {
         return no_object(32);
     }
     ObjectRead {
@@ -67,15 +65,8 @@ pub(crate) fn first_object(p: &[u8]) -> ObjectRead
     }
 }
 
-// Reads the one object at the start of `input`; what follows it does not matter. Refusals in this order: 30, 31, 32.
-pub fn read_object(input: &[u8]) -> ObjectRead
-    ensures { λ r. ⌜ r ≡ readOf (now (input .entry)) ⌝ }
-{
-    first_object(input)
-}
-
 // How many bytes the object of this tag and value has.
-pub(crate) fn object_size(tag: &[u8], value: &[u8]) -> usize
+fn object_size(tag: &[u8], value: &[u8]) -> usize
     requires { ⌜ length (now value) ≤ 65535 ⌝ }
     ensures { λ r. ⌜ r ≡ length (objectOf (now (tag .entry)) (now (value .entry))) ⌝ }
 {
@@ -84,7 +75,7 @@ pub(crate) fn object_size(tag: &[u8], value: &[u8]) -> usize
 }
 
 // Puts the object of this tag and value at `at`.
-pub(crate) fn put_object(out: &mut [u8], at: usize, tag: &[u8], value: &[u8]) -> usize
+fn put_object(out: &mut [u8], at: usize, tag: &[u8], value: &[u8]) -> usize
     requires { ⌜ Room (now out) at (now tag) (now value) ⌝ }
     ensures { λ r. ⌜ Puts (now (out .entry)) at (objectOf (now (tag .entry)) (now (value .entry))) r (now (out .exit)) ⌝ }
 {
@@ -108,24 +99,4 @@ pub fn write_object(tag: &[u8], value: &[u8], out: &mut [u8]) -> Answer
     }
     let length = put_object(out, 0, tag, value);
     Answer { refusal: 0, length }
-}
-
-// Writes, for each tag of the list `tags` in order, the first object of the list `objects` with that tag to the start of `out`. Tags that
-// are absent, and the objects that are withheld, write nothing. Refusals in this order: 30 for the tags, 30 to 32 for the objects, 1.
-pub fn pick(tags: &[u8], objects: &[u8], out: &mut [u8]) -> Answer
-    ensures { λ r. ⌜ Gives (pick (now (tags .entry)) (now (objects .entry))) (now (out .entry)) r (now (out .exit)) ⌝ }
-{
-    let bad_tags = picking::tags_refusal(tags);
-    if bad_tags != 0 {
-        return refused(bad_tags);
-    }
-    let bad_objects = picking::objects_refusal(objects);
-    if bad_objects != 0 {
-        return refused(bad_objects);
-    }
-    let measured = picking::walk(tags, objects, out, false);
-    if measured.refusal != 0 {
-        return measured;
-    }
-    picking::walk(tags, objects, out, true)
 }

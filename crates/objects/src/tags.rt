@@ -1,10 +1,9 @@
-// Tags: what stands at the start of some bytes, and whether two are the same (scope paper, section Data objects).
+// Tags: what stands at the start of some bytes (scope paper, section Data objects).
 ghost use mathlib.Core.Path.{_≡_};
 ghost use Rattle.objects.specs.Tag.{tagSize, isTag};
-ghost use Rattle.objects.specs.Pick.{same};
 
 // The size of the tag that `p` starts with, 0 where it starts with none. A first byte whose low five bits are set calls for a second.
-pub(crate) fn tag_size(p: &[u8]) -> usize
+pub fn tag_size(p: &[u8]) -> usize
     ensures { λ r. ⌜ r ≡ tagSize (now (p .entry)) ⌝ }
 {
     if p.len() == 0 {
@@ -29,21 +28,4 @@ pub(crate) fn is_tag(tag: &[u8]) -> bool
 {
     let n = tag.len();
     (n != 0) & (tag_size(tag) == n)
-}
-
-// The two are the same bytes.
-pub(crate) fn same_bytes(a: &[u8], b: &[u8]) -> bool
-    ensures { λ r. ⌜ r ≡ same (now (a .entry)) (now (b .entry)) ⌝ }
-{
-    if a.len() != b.len() {
-        return false;
-    }
-    let mut i = 0;
-    while i < a.len() {
-        if a[i] != b[i] {
-            return false;
-        }
-        i += 1;
-    }
-    true
 }

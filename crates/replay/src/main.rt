@@ -9,7 +9,7 @@
 // that begins no call, or a script that breaks off, is logged as `bad script` and ends the calls.
 mod calls;
 mod log;
-mod state;
+mod showing;
 
 use calls::run_call;
 use device::Device;
@@ -56,7 +56,7 @@ fn main() {
     let started = device::start(&mut live, &mut loading);
     let device = started.device;
     let last = run_script(device, &script[..n], &mut live, &mut loading);
-    state::show(last, &live, &loading);
+    showing::show(last, &live, &loading);
     if n == 1048576 {
         log::say(b"script too long\n");
     }

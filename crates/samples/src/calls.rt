@@ -76,7 +76,7 @@ fn ask_two(call: u8, response: bool, first: &[u8], second: &[u8], out: &mut [u8]
     match call {
         b'L' => message::write_message(first, response, second, out),
         b'T' => objects::write_object(first, second, out),
-        _ => objects::pick(first, second, out),
+        _ => picking::pick(first, second, out),
     }
 }
 
@@ -98,8 +98,8 @@ pub fn run_find(line: &[u8]) {
 
 // Logs what is found, the refusal's number before it.
 fn answer_find(list: &[u8], number: u16, n: usize) {
-    let refusal = message::find_refusal(list, number, n);
-    let part = message::find_parameter(list, number, n);
+    let refusal = parameters::find_refusal(list, number, n);
+    let part = parameters::find_parameter(list, number, n);
     let length = part.len();
     log::answered(Answer { refusal, length }, part);
 }

@@ -13,8 +13,8 @@ use Rattle.answer.proofs.Laid.{put-fits, pasted-length}
 use Rattle.tables.specs.declared.Extent.{Extent}
 use Rattle.tables.specs.declared.Load.{Load}
 use Rattle.tables.specs.declared.Closed.{Closed}
-use Rattle.tables.specs.Record.{recs}
-use Rattle.tables.specs.Store.{zeros}
+use Rattle.records.specs.Record.{recs}
+use Rattle.records.specs.Store.{zeros}
 use Rattle.tables.specs.Closing.{notNamed, closes, newBytes, newRecords, Closes}
 use Rattle.tables.specs.Steps.{stayingBytes, Stays, Compacts, Replaces, limitsKept, notClosed}
 use Rattle.answer.proofs.Parts.{and-left, and-right}

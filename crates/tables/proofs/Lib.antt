@@ -1,14 +1,11 @@
--- `Stores`, `Loads`, `NewSets`, `Networks` and `Promises` say what holds of stores, loads, versions and the calls, `Samples` small cases; the
--- others serve the proofs.
-pub mod Records
-pub mod Checks
+-- `Loads`, `NewSets`, `Networks` and `Promises` say what holds of loads, versions and the calls, `Samples` small cases; the others serve the
+-- proofs.
 pub mod Moves
 pub mod Limits
 pub mod Staying
 pub mod Stocking
 pub mod Closings
 pub mod Versions
-pub mod Stores
 pub mod Loads
 pub mod NewSets
 pub mod Networks

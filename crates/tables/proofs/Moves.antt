@@ -1,11 +1,11 @@
--- Bytes moved down in a store, and zeros behind what was written.
+-- Bytes moved down in a store.
 use mathlib.Core.Path.{_≡_, sym, ap, _∙_}
-use mathlib.Core.List.{List, _++_, append-assoc, append-nil}
+use mathlib.Core.List.{List, _++_, append-assoc}
 use Prim.Native.Nat.{ℕ, _+_, _-_, _≤_, _<_}
 use native.Mathlib.Omega.{arith}
 use native.Mathlib.Numerals.{add-one}
-use lib.ListN.{length, getD, set, take, drop, replicate, length-drop, take-append-drop}
-use lib.Seq.{getD-drop, drop-drop, drop-length, paste-zero, paste-suc, drop-paste}
+use lib.ListN.{length, getD, set, take, drop, length-drop, take-append-drop}
+use lib.Seq.{getD-drop, drop-drop, paste-zero, paste-suc, drop-paste}
 use Rattle.tables.specs.Steps.{moved}
 
 pub move-none : (s : List ℕ) (to from : ℕ) → s ≡ moved s to from 0
@@ -30,8 +30,3 @@ move-same s to len =
     sym (append-assoc (take to s) (take len (drop to s)) (drop (to + len) s)
     ∙ ap (λ (l : List ℕ). take to s ++ (take len (drop to s) ++ l)) (sym (drop-drop len to s))
     ∙ ap (λ (l : List ℕ). take to s ++ l) (take-append-drop len (drop to s)) ∙ take-append-drop to s)
-
-pub fill-done : (d : List ℕ) (i : ℕ) → i ≤ length d → length d ≤ i → replicate i 0 ++ drop i d ≡ replicate (length d) 0
-fill-done d i h k =
-    let e : i ≡ length d = omega arith in
-    ap (λ (n : ℕ). replicate n 0 ++ drop n d) e ∙ ap (λ (l : List ℕ). replicate (length d) 0 ++ l) (drop-length d) ∙ append-nil (replicate (length d) 0)

@@ -9,13 +9,12 @@ use Rattle.answer.specs.Pieces.{every}
 use Rattle.tables.specs.declared.Extent.{Extent}
 use Rattle.tables.specs.declared.Load.{Load}
 use Rattle.tables.specs.declared.Closed.{Closed}
-use Rattle.tables.specs.Record.{recordIn, recs, kindOf, networkOf, isKind, takes}
-use Rattle.tables.specs.Store.{storeOf, soundStore}
-use Rattle.tables.specs.Loading.{fits}
-use Rattle.tables.specs.Closing.{isNamed, notNamed, newSet, newBytes, newRecords, closes, Closes}
+use Rattle.records.specs.Record.{recordIn, recs, kindOf, networkOf, isKind, takes, isNamed}
+use Rattle.records.specs.Store.{storeOf, fits, soundStore}
+use Rattle.tables.specs.Closing.{notNamed, newSet, newBytes, newRecords, closes, Closes}
 use Rattle.answer.proofs.Parts.{and-left, and-right, flatten-append, every-append, all-join}
-use Rattle.tables.proofs.Records.{AllRecords}
-use Rattle.tables.proofs.Stores.{SoundAs, sound-as, as-sound, used-part, sound-recs, fits-bytes, store-long, store-none, zeros-sound}
+use Rattle.records.proofs.Records.{AllRecords}
+use Rattle.records.proofs.Stores.{SoundAs, sound-as, as-sound, used-part, sound-recs, fits-bytes, store-long, store-none, zeros-sound}
 
 -- ---- what a load for one network takes, a load for 00 takes
 

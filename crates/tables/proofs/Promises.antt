@@ -1,22 +1,12 @@
 -- ONE RESULT: two results of a call that its promise allows for one entry are one.
 use mathlib.Core.Path.{_≡_, sym, _∙_}
-use mathlib.Core.Bool.{Bool}
 use mathlib.Core.List.{List}
 use Prim.Native.Nat.{ℕ}
-use lib.ListN.{length, drop}
 use Rattle.tables.specs.declared.Extent.{Extent}
 use Rattle.tables.specs.declared.Load.{Load}
 use Rattle.tables.specs.declared.Closed.{Closed}
-use Rattle.tables.specs.Record.{goodBlock}
-use Rattle.tables.specs.Store.{zeros, allZero, soundStore}
 use Rattle.tables.specs.Loading.{Adds}
 use Rattle.tables.specs.Closing.{Closes, newVersions}
-
-pub check-store-one : (network used records : ℕ) (store : List ℕ) (r s : Bool) → r ≡ soundStore network used records store → s ≡ soundStore network used records store → r ≡ s
-check-store-one network used records store r s e f = e ∙ sym f
-
-pub block-good-one : (block : List ℕ) (r s : Bool) → r ≡ goodBlock block → s ≡ goodBlock block → r ≡ s
-block-good-one block r s e f = e ∙ sym f
 
 pub add-block-one : (network : ℕ) (load : Load) (block store : List ℕ) (r s : Load) (o o′ : List ℕ) → Adds network load block store r o → Adds network load block store s o′
     → (r ≡ s) × (o ≡ o′)
@@ -30,12 +20,6 @@ close-load-one network extent load live loading r s a b a′ b′ g h =
     let u = g .used ∙ sym (h .used) in
     let n = g .records ∙ sym (h .records) in
     ((λ i. record { done = d i; used = u i; records = n i }), g .store ∙ sym (h .store), g .zeroed ∙ sym (h .zeroed))
-
-pub rest-is-zero-one : (store : List ℕ) (used : ℕ) (r s : Bool) → r ≡ allZero (drop used store) → s ≡ allZero (drop used store) → r ≡ s
-rest-is-zero-one store used r s e f = e ∙ sym f
-
-pub zero-store-one : (store o o′ : List ℕ) → o ≡ zeros (length store) → o′ ≡ zeros (length store) → o ≡ o′
-zero-store-one store o o′ e f = e ∙ sym f
 
 pub versions-after-one : (network : ℕ) (version versions r s : List ℕ) → r ≡ newVersions network version versions → s ≡ newVersions network version versions → r ≡ s
 versions-after-one network version versions r s e f = e ∙ sym f

@@ -8,15 +8,16 @@ use lib.ListN.{length, take, drop, drop-of-length-le}
 use lib.Dec.{leb, ltb}
 use borrow.Author.Tests.{leb-true}
 use Rattle.answer.specs.Pieces.{piecesFrom}
-use Rattle.answer.specs.Laid.{PieceAt, pasted}
+use Rattle.answer.specs.Laid.{pasted}
 use Rattle.answer.proofs.Laid.{pasted-length}
 use Rattle.answer.proofs.Pieces.{piece-more, piece-none}
 use Rattle.tables.specs.declared.Load.{Load}
-use Rattle.tables.specs.Record.{recordIn, recs, takes, goodBlock, recordsOf}
+use Rattle.records.specs.declared.Found.{Found}
+use Rattle.records.specs.Record.{recordIn, foundIn, recs, takesAs, takes, goodBlock, recordsOf}
 use Rattle.tables.specs.Loading.{Stocked, hasRoom, stockOne, stockAll, taken, takenOf, stocked, Adds}
 use Rattle.tables.specs.Steps.{Stocks, stockedAll, StocksAll}
 use Rattle.answer.proofs.Parts.{and-left, and-right, piece-part}
-use Rattle.tables.proofs.Records.{record-le}
+use Rattle.records.proofs.Records.{record-le, size-is, found-takes}
 
 -- the store keeps its size
 pub one-long : (s : Stocked) (r : List ℕ) → length (stockOne s r .bytes) ≡ length (s .bytes)
@@ -43,23 +44,27 @@ Left w block at load bytes = stockAll (both load bytes) (taken w (recs (drop at 
 is-both : (load : Load) (rec bytes : List ℕ) (r : Load) (bytes′ : List ℕ) → Stocks load rec bytes r bytes′ → stockOne (both load bytes) rec ≡ both r bytes′
 is-both load rec bytes r bytes′ k = sym (λ i. both (k .load′ i) (k .store′ i))
 
-module _ (w : ℕ) (block : List ℕ) (at n : ℕ) (p : PieceAt recordIn block at n) (load : Load) (bytes : List ℕ) where
-  pub left-none : n ≡ 0 → Left w block at load bytes ≡ both load bytes
+module _ (w : ℕ) (block : List ℕ) (at : ℕ) (rec : Found) (f : rec ≡ foundIn (drop at block)) (load : Load) (bytes : List ℕ) where
+  pub left-none : rec .size ≡ 0 → Left w block at load bytes ≡ both load bytes
   unfolding stockAll taken
-  left-none z = rw (piece-none recordIn record-le block at n (p .is) z) refl
+  left-none z = rw (piece-none recordIn record-le block at (rec .size) (size-is block at rec f) z) refl
 
-  module _ (some : n ≡ 0 → ⊥) where
-    pub left-skip : false ≡ takes w (take (at + n - at) (drop at block)) → Left w block at load bytes ≡ Left w block (at + n) load bytes
+  module _ (some : rec .size ≡ 0 → ⊥) where
+    -- whether it is taken
+    told : (t : Bool) → t ≡ takesAs w (rec .kind) (rec .network) → takes w (take (rec .size) (drop at block)) ≡ t
+    told t e = sym (e ∙ found-takes block at rec f some w)
+
+    pub left-skip : false ≡ takesAs w (rec .kind) (rec .network) → Left w block at load bytes ≡ Left w block (at + rec .size) load bytes
     unfolding taken
-    left-skip e = rw (piece-more recordIn record-le block at n (p .is) some, ← piece-part block at n, ← e) refl
+    left-skip e = rw (piece-more recordIn record-le block at (rec .size) (size-is block at rec f) some, told false e) refl
 
-    pub left-more : true ≡ takes w (take (at + n - at) (drop at block)) → (r : Load) (bytes′ : List ℕ) → Stocks load (take (at + n - at) (drop at block)) bytes r bytes′
-        → Left w block at load bytes ≡ Left w block (at + n) r bytes′
+    pub left-more : true ≡ takesAs w (rec .kind) (rec .network) → (r : Load) (bytes′ : List ℕ) → Stocks load (take (at + rec .size - at) (drop at block)) bytes r bytes′
+        → Left w block at load bytes ≡ Left w block (at + rec .size) r bytes′
     unfolding taken stockAll
     left-more e r bytes′ k =
-        let f : Left w block at load bytes ≡ stockAll (stockOne (both load bytes) (take (at + n - at) (drop at block))) (taken w (recs (drop (at + n) block))) =
-        rw (piece-more recordIn record-le block at n (p .is) some, ← piece-part block at n, ← e) refl in
-        f ∙ ap (λ (s : Stocked). stockAll s (taken w (recs (drop (at + n) block)))) (is-both load (take (at + n - at) (drop at block)) bytes r bytes′ k)
+        let g : Left w block at load bytes ≡ stockAll (stockOne (both load bytes) (take (at + rec .size - at) (drop at block))) (taken w (recs (drop (at + rec .size) block))) =
+        rw (piece-more recordIn record-le block at (rec .size) (size-is block at rec f) some, told true e, piece-part block at (rec .size)) refl in
+        g ∙ ap (λ (s : Stocked). stockAll s (taken w (recs (drop (at + rec .size) block)))) (is-both load (take (at + rec .size - at) (drop at block)) bytes r bytes′ k)
 
 pub adds-by : (w : ℕ) (load : Load) (block bytes : List ℕ) (r : Load) (bytes′ : List ℕ) → stockedAll w (both load bytes) block ≡ both r bytes′ → StocksAll w load block bytes r bytes′
 adds-by w load block bytes r bytes′ e = record { load′ = sym (ap (λ (s : Stocked). s .load) e); store′ = sym (ap (λ (s : Stocked). s .bytes) e) }

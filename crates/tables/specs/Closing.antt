@@ -1,22 +1,18 @@
 -- Closing a load: the new set of live records, and the versions after it (scope paper, section Commands, TLE).
 use Prim.Native.Nat.{ℕ, _+_, _-_, _*_}
 use mathlib.Core.Path.{_≡_}
-use mathlib.Core.Bool.{Bool, not, _&&_, _||_, cond}
+use mathlib.Core.Bool.{Bool, not, _&&_, cond}
 use mathlib.Core.List.{List, [], _∷_, _++_, flatten}
 use lib.ListN.{length, take, replicate}
 use lib.Dec.{leb, eqb}
 use Rattle.answer.specs.Laid.{pasted}
+use Rattle.records.specs.Record.{recs, isNamed}
+use Rattle.records.specs.Store.{zeros}
 use Rattle.tables.specs.declared.Extent.{Extent}
 use Rattle.tables.specs.declared.Load.{Load}
 use Rattle.tables.specs.declared.Closed.{Closed}
-use Rattle.tables.specs.Record.{networkOf, recs}
-use Rattle.tables.specs.Store.{zeros}
 
 -- ---- the new set
-
--- a load for 00 names every network, any other its own
-abbrev pub isNamed : ℕ → List ℕ → Bool
-isNamed network r = eqb network 0 || eqb (networkOf r) network
 
 -- the records of networks that are not named, in order
 unfoldable pub notNamed : ℕ → List (List ℕ) → List (List ℕ)

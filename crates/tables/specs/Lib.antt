@@ -1,6 +1,4 @@
 -- In the order of reading. `Steps` serves the private functions alone: no promise cites it.
-pub mod Record
-pub mod Store
 pub mod Loading
 pub mod Closing
 pub mod Steps

@@ -2,18 +2,15 @@
 use Prim.Native.Nat.{ℕ, _+_}
 use mathlib.Core.Path.{_≡_}
 use mathlib.Core.Bool.{Bool, true, false, not, _&&_, _||_, cond}
-use mathlib.Core.List.{List, [], _∷_, _++_, flatten}
+use mathlib.Core.List.{List, [], _∷_, _++_}
 use lib.ListN.{length}
 use lib.Dec.{leb, ltb}
 use Rattle.answer.specs.Laid.{pasted}
 use Rattle.tables.specs.declared.Load.{Load}
-use Rattle.tables.specs.Record.{takes, recordsOf, goodBlock}
+use Rattle.records.specs.Record.{takes, recordsOf, goodBlock}
+use Rattle.records.specs.Store.{fits}
 
 -- ---- said of records
-
--- at most `size` bytes and 512 records
-unfoldable pub fits : ℕ → List (List ℕ) → Bool
-fits size rs = leb (length (flatten rs)) size && leb (length rs) 512
 
 -- those of the records that a load for the network takes, in order
 unfoldable pub taken : ℕ → List (List ℕ) → List (List ℕ)

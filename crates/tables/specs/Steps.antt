@@ -1,23 +1,17 @@
 -- What the private functions come to. No public promise cites it, and no reader has to believe it.
 use Prim.Native.Nat.{ℕ, _+_, _-_}
 use mathlib.Core.Path.{_≡_}
-use mathlib.Core.Bool.{Bool, true, false, not, _&&_, _||_}
+use mathlib.Core.Bool.{Bool, true, false, not, _&&_}
 use mathlib.Core.List.{List, _++_, flatten}
 use lib.ListN.{length, take, drop}
-use lib.Dec.{leb, eqb}
-use Rattle.answer.specs.Pieces.{whole, every}
+use lib.Dec.{leb}
+use Rattle.records.specs.Record.{recs, recordsOf}
+use Rattle.records.specs.Store.{zeros}
 use Rattle.tables.specs.declared.Extent.{Extent}
 use Rattle.tables.specs.declared.Load.{Load}
 use Rattle.tables.specs.declared.Closed.{Closed}
-use Rattle.tables.specs.Record.{recordIn, recs, takes, recordsOf}
-use Rattle.tables.specs.Store.{zeros}
 use Rattle.tables.specs.Loading.{taken, Stocked, stockOne, stockAll}
 use Rattle.tables.specs.Closing.{notNamed}
-
--- the bytes are whole records, with n more as many as told, and, unless any will do, records that a load for the network takes
-unfoldable pub recordsGood : Bool → ℕ → ℕ → ℕ → List ℕ → Bool
-recordsGood any network records n bytes =
-    whole recordIn bytes && (eqb (length (recs bytes) + n) records && (any || every (takes network) (recs bytes)))
 
 -- the load, marked as over
 abbrev pub overLoad : Load → Load

@@ -1,8 +1,8 @@
 // Adding the records of a block to an open load's store (scope paper, section Commands).
 use crate::Load;
-use crate::checking::block_good;
-use crate::record::is_taken;
-use crate::record::record_at;
+use records::block_good;
+use records::is_taken;
+use records::record_at;
 ghost use mathlib.Core.Path.{_≡_};
 ghost use Rattle.tables.specs.Loading.{Adds};
 ghost use Rattle.tables.specs.Steps.{Stocks, StocksAll, overLoad};
@@ -50,12 +50,13 @@ fn add_records(store: &mut [u8], load: Load, network: u8, block: &[u8]) -> Load
     let mut grown = load;
     let mut at = 2;
     loop {
-        let size = record_at(block, at);
+        let rec = record_at(block, at);
+        let size = rec.size;
         if size == 0 {
             break;
         }
         let end = at + size;
-        if is_taken(&block[at..end], network) {
+        if is_taken(rec, network) {
             grown = add_record(store, grown, &block[at..end]);
         }
         at = end;

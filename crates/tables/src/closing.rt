@@ -2,13 +2,13 @@
 use crate::Closed;
 use crate::Extent;
 use crate::Load;
-use crate::record::is_named;
-use crate::record::record_at;
-use crate::zero_store;
+use records::is_named;
+use records::record_at;
+use records::zero_store;
 ghost use mathlib.Core.Path.{_≡_};
 ghost use Prim.Native.Nat.{_+_, _≤_, min};
 ghost use lib.ListN.{length, take};
-ghost use Rattle.tables.specs.Store.{zeros};
+ghost use Rattle.records.specs.Store.{zeros};
 ghost use Rattle.tables.specs.Closing.{Closes};
 ghost use Rattle.tables.specs.Steps.{Stays, Compacts, Replaces, stayingBytes, moved, limitsKept, notClosed};
 
@@ -20,12 +20,13 @@ fn staying(bytes: &[u8], network: u8) -> Extent
     let mut records = 0;
     let mut at = 0;
     loop {
-        let size = record_at(bytes, at);
+        let rec = record_at(bytes, at);
+        let size = rec.size;
         if size == 0 {
             break;
         }
         let end = at + size;
-        if !is_named(&bytes[at..end], network) {
+        if !is_named(rec, network) {
             used += size;
             records += 1;
         }
@@ -57,12 +58,13 @@ fn compact(live: &mut [u8], used: usize, network: u8) -> usize
     let mut from = 0;
     let mut to = 0;
     loop {
-        let size = record_at(&live[0..used], from);
+        let rec = record_at(&live[0..used], from);
+        let size = rec.size;
         if size == 0 {
             break;
         }
         let end = from + size;
-        if !is_named(&live[from..end], network) {
+        if !is_named(rec, network) {
             move_down(live, to, from, size);
             to += size;
         }

@@ -1,6 +1,6 @@
 -- `abecs::abecs_check_store` meets its contract: the flag of what the call behind it tells.
 use mathlib.Core.Path.{_≡_, ap, _∙_}
-use Rattle.abecs.specs.Flags.{flagOf}
+use Rattle.image.specs.Image.{flagOf}
 use borrow.Author.Needs.{needs}
 use Rattle.abecs.proofs.abecs_check_store.Statement.{statement}
 use Rattle.abecs.proofs.abecs_check_store.Tie as tie

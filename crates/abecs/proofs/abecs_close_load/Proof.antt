@@ -1,6 +1,4 @@
 -- `abecs::abecs_close_load` meets its contract: the answer of the call behind it, with its flag as a byte.
-use mathlib.Core.Path.{_≡_, ap, _∙_}
-use Rattle.abecs.specs.Flags.{flagOf}
 use borrow.Author.Needs.{needs}
 use Rattle.abecs.proofs.abecs_close_load.Statement.{statement}
 use Rattle.abecs.proofs.abecs_close_load.Tie as tie
@@ -8,7 +6,7 @@ use Rattle.abecs.proofs.abecs_close_load.Tie as tie
 returns : tie.Need-returns
 returns c =
     let e = c .before .before .before .before .before .close-load .ensures in
-    record { done = c .flag .ensures ∙ ap flagOf (e .done); used = e .used; records = e .records; store = e .store; zeroed = e .zeroed }
+    record { done = simp (c .flag .ensures, e .done); used = e .used; records = e .records; store = e .store; zeroed = e .zeroed }
 
 pub abecs-close-load-spec : {M : Type 1} → statement M
 abecs-close-load-spec =

@@ -3,8 +3,8 @@ use mathlib.Core.Path.{_≡_, sym, ap, _∙_}
 use mathlib.Core.List.{List}
 use Rattle.answer.specs.Answers.Result.{Good}
 use Rattle.answer.proofs.Laws.{gives-refused, gives-as}
-use Rattle.message.specs.Finding.{find}
-use Rattle.message.proofs.Finding.{find-numbered}
+use Rattle.parameters.specs.Finding.{find}
+use Rattle.parameters.proofs.Finding.{find-numbered}
 use Rattle.abecs.proofs.Found.{found-none, found-some}
 use borrow.Author.Needs.{needs}
 use Rattle.abecs.proofs.abecs_find_parameter.Statement.{statement}

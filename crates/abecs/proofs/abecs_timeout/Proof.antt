@@ -2,12 +2,12 @@
 use contract.Running.{givenOf, tables, tablesOf}
 use denote.Triple.Spec.{tripleOf}
 use denote.Triple.Table.{entered, cited}
-use Rattle.abecs.specs.ImagePromise.{TimesOutImage}
+use Rattle.image.specs.ImagePromise.{TimesOutImage}
 use Rattle.abecs.proofs.InPlaceEvent as law
 use Rattle.abecs.proofs.ImageLent.{lent}
-use Rattle.abecs.proofs.image.timeout_image.Symbol as g-def
-use Rattle.abecs.proofs.image.timeout_image.Symbol.{name as #g}
-use Rattle.abecs.proofs.image.timeout_image.Met as g-thm
+use Rattle.image.proofs.timeout_image.Symbol as g-def
+use Rattle.image.proofs.timeout_image.Symbol.{name as #g}
+use Rattle.image.proofs.timeout_image.Met as g-thm
 use Rattle.abecs.proofs.abecs_timeout.Key.{name as #f}
 use Rattle.abecs.proofs.abecs_timeout as f
 use Rattle.abecs.proofs.abecs_timeout.Statement as stated
@@ -19,4 +19,4 @@ abecs-timeout-spec 𝓤 H 𝓜 𝓖 𝓡 =
     entered 𝓤 H (tripleOf 𝓤 H (𝓖 .A) f.signature (f.spec 𝓤 H (𝓖 .A) (𝓜 .mem) (𝓡 .run)))
     (tables 𝓤 H 𝓜 𝓡 code.env .C) (tables 𝓤 H 𝓜 𝓡 code.env .Λ) #f code.function (code.unfolded 𝓤 H 𝓜 𝓡)
     (law.meets lent #g TimesOutImage 𝓤 H (𝓖 .A) (givenOf 𝓤 H 𝓜 𝓖) (tablesOf 𝓤 H 𝓜 (tables 𝓤 H 𝓜 𝓡 code.env))
-    (cited 𝓤 H (law.Callee lent #g TimesOutImage 𝓤 H (𝓖 .A)) 𝓜 𝓡 code.env #g g-def.routine code.calls-abecs·image·timeout-image (g-thm.met 𝓤 H 𝓜 𝓖 𝓡)))
+    (cited 𝓤 H (law.Callee lent #g TimesOutImage 𝓤 H (𝓖 .A)) 𝓜 𝓡 code.env #g g-def.routine code.calls-image·timeout-image (g-thm.met 𝓤 H 𝓜 𝓖 𝓡)))

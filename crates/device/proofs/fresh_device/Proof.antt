@@ -1,7 +1,7 @@
 -- `device::fresh_device` meets its contract: field by field.
 use borrow.Author.Needs.{needs}
 use Rattle.device.specs.Machine.{fresh}
-use Rattle.device.specs.State.{stateOf}
+use Rattle.device.specs.Between.{stateOf}
 use Rattle.device.proofs.fresh_device.Statement.{statement}
 use Rattle.device.proofs.fresh_device.Tie as tie
 

@@ -2,9 +2,10 @@
 use mathlib.Core.Path.{_≡_, sym, _∙_}
 use lib.ListN.{length}
 use borrow.Author.Needs.{needs}
-use Rattle.device.specs.State.{stateAs}
+use Rattle.state.specs.State.{stateAs}
+use Rattle.state.proofs.Accepting.{accepted}
 use Rattle.device.specs.Promise.{afterPiece}
-use Rattle.device.proofs.Giving.{accepted, refused-gives, good-gives}
+use Rattle.device.proofs.Giving.{refused-gives, good-gives}
 use Rattle.device.proofs.receive.Statement.{statement}
 use Rattle.device.proofs.receive.Tie as tie
 

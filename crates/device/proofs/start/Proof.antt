@@ -2,14 +2,15 @@
 use mathlib.Core.Path.{_≡_, refl, sym, ap, _∙_}
 use borrow.Author.Needs.{needs}
 use borrow.Author.Tests.{not-true, not-false}
-use Rattle.tables.specs.Store.{zeros}
-use Rattle.tables.proofs.Stores.{store-none}
+use Rattle.records.specs.Store.{zeros}
+use Rattle.records.proofs.Stores.{store-none}
 use Rattle.execution.specs.Core.{freshCore}
 use Rattle.execution.specs.Stored.{storedOf}
+use Rattle.state.specs.State.{stateAs}
+use Rattle.state.specs.Sound.{isSized}
+use Rattle.state.proofs.Accepting.{sized-both}
 use Rattle.device.specs.Machine.{fresh}
-use Rattle.device.specs.State.{stateAs, stateOf}
-use Rattle.device.specs.Sound.{isSized}
-use Rattle.device.proofs.Knowing.{sized-both}
+use Rattle.device.specs.Between.{stateOf}
 use Rattle.device.proofs.start.Statement.{statement}
 use Rattle.device.proofs.start.Tie as tie
 

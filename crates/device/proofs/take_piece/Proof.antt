@@ -5,11 +5,12 @@ use native.Mathlib.Omega.{arith}
 use lib.ListN.{length}
 use borrow.Author.Needs.{needs}
 use borrow.Author.Tests.{not-true, not-false}
-use Rattle.device.specs.declared.Device.{Device}
-use Rattle.device.specs.State.{State, stateAs}
-use Rattle.device.specs.Steps.{asksIn, canResend}
+use Rattle.state.specs.declared.Device.{Device}
+use Rattle.state.specs.State.{State, stateAs, canResend}
+use Rattle.state.proofs.Accepting.{Arrays, held-short, line-good, held-good}
+use Rattle.device.specs.Steps.{asksIn}
 use Rattle.device.proofs.Replies.{Known}
-use Rattle.device.proofs.Knowing.{Arrays, held-short, line-good, held-good, known}
+use Rattle.device.proofs.Knowing.{known}
 use Rattle.device.proofs.Giving.{got-within, got-asks, silent-gives, asked-gives}
 use Rattle.device.proofs.take_piece.Statement.{statement}
 use Rattle.device.proofs.take_piece.Tie as tie

@@ -2,13 +2,14 @@
 use mathlib.Core.Path.{_≡_, refl, sym, ap, _∙_}
 use lib.ListN.{length}
 use borrow.Author.Needs.{needs}
-use Rattle.device.specs.State.{stateAs}
-use Rattle.device.specs.Sound.{refusalOf}
+use Rattle.state.specs.State.{stateAs}
+use Rattle.state.specs.Sound.{refusalOf}
+use Rattle.state.proofs.Accepting.{accepted, Arrays, held-good}
 use Rattle.device.specs.Promise.{afterPiece, afterEvent}
 use Rattle.device.specs.Events.Event.{timeout, restart}
 use Rattle.device.proofs.Replies.{Known}
-use Rattle.device.proofs.Knowing.{Arrays, held-good, known}
-use Rattle.device.proofs.Giving.{accepted, refused-gives, good-gives, timeout-gives}
+use Rattle.device.proofs.Knowing.{known}
+use Rattle.device.proofs.Giving.{refused-gives, good-gives, timeout-gives}
 use Rattle.device.proofs.timeout.Statement.{statement}
 use Rattle.device.proofs.timeout.Tie as tie
 

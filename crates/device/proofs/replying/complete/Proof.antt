@@ -4,7 +4,7 @@ use mathlib.Core.Path.{_≡_, sym, ap, _∙_}
 use native.Mathlib.Omega.{arith}
 use lib.ListN.{length, take}
 use borrow.Author.Needs.{needs}
-use Rattle.device.specs.State.{stateAs}
+use Rattle.state.specs.State.{stateAs}
 use Rattle.device.proofs.Running.{completed-good, completed-bad, does-as, does-says}
 use Rattle.device.proofs.replying.complete.Statement.{statement}
 use Rattle.device.proofs.replying.complete.Tie as tie

@@ -4,7 +4,7 @@ use mathlib.Core.Path.{_≡_, ap}
 use native.Mathlib.Omega.{arith}
 use lib.ListN.{length, take}
 use borrow.Author.Needs.{needs}
-use Rattle.device.specs.State.{stateAs}
+use Rattle.state.specs.State.{stateAs}
 use Rattle.device.proofs.Running.{response-some, response-short, ran-is}
 use Rattle.device.proofs.replying.run.Statement.{statement}
 use Rattle.device.proofs.replying.run.Tie as tie

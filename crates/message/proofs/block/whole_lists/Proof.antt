@@ -6,7 +6,7 @@ use native.Mathlib.Omega.{arith}
 use borrow.Author.Tests.{not-true, not-false}
 use lib.ListN.{length, drop}
 use Rattle.answer.specs.Pieces.{every}
-use Rattle.message.specs.Parameters.{wholeList}
+use Rattle.parameters.specs.Parameters.{wholeList}
 use Rattle.message.specs.Blocks.{blocksOf}
 use Rattle.message.proofs.Blocks.{three, lists-more, lists-none}
 use borrow.Author.Needs.{needs}

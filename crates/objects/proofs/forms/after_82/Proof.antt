@@ -8,7 +8,7 @@ use Rattle.objects.proofs.forms.after_82.Statement.{statement}
 use Rattle.objects.proofs.forms.after_82.Tie as tie
 
 returns : tie.Need-returns
-returns c = (sym (after82-none _ (c .if1 .taken)), omega arith)
+returns c = sym (after82-none _ (c .if1 .taken))
 
 cast-value : tie.Need-cast-value
 cast-value c = omega (arith, c .shared-slice-known .given 0)
@@ -23,15 +23,10 @@ add-value : tie.Need-add-value
 add-value c = omega (arith, c .shared-slice-known2 .given 0, c .shared-slice-known2 .given 1)
 
 returns-2 : tie.Need-returns-2
-returns-2 c =
-    let p = c .before .before .before .before .args .p .now in
-    (simp (after82-is p (omega arith), lt-ltb _ _ (c .if2 .taken)), omega arith)
+returns-2 c = simp (after82-is (c .before .before .before .before .args .p .now) (omega arith), lt-ltb _ _ (c .if2 .taken))
 
 returns-3 : tie.Need-returns-3
-returns-3 c =
-    let p = c .before .before .before .before .args .p .now in
-    let k = c .before .shared-slice-known2 .given in
-    (simp (after82-is p (omega arith), le-ltb _ _ (c .if2 .left)), omega (arith, k 0, k 1))
+returns-3 c = simp (after82-is (c .before .before .before .before .args .p .now) (omega arith), le-ltb _ _ (c .if2 .left))
 
 pub after-82-spec : {M : Type 1} → statement M
 after-82-spec = tie.close (tie.spec returns (λ c. search needs) cast-value mul-value (λ c. search needs) cast-value-2 add-value returns-2 returns-3)

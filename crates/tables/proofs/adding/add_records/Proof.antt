@@ -2,9 +2,9 @@
 use Prim.Native.Nat.{_+_, _≤_, _-_}
 use mathlib.Core.Path.{_≡_, refl, sym, ap, _∙_}
 use native.Mathlib.Omega.{arith}
-use lib.ListN.{length, take, drop, length-take, length-drop}
+use lib.ListN.{length, take, drop}
+use Rattle.records.proofs.Records.{found-at}
 use Rattle.tables.specs.Steps.{stockedAll}
-use Rattle.tables.proofs.Records.{record-here}
 use Rattle.tables.proofs.Stocking.{both, Left, one-long, left-none, left-skip, left-more, adds-by, adds-short}
 use borrow.Author.Needs.{needs}
 use Rattle.tables.proofs.adding.add_records.Statement.{statement}
@@ -23,48 +23,43 @@ returns c = let a = c .before .before .before .args in adds-short (a .network) (
 loop-holds : tie.Need-loop-holds Inv-loop μ-loop
 loop-holds c = (omega arith, refl, refl)
 
+-- the record that was found ends within the block
+within : (c : tie.Else2 Inv-loop μ-loop) → c .before .before .loop .at + c .before .record-at .result .size ≤ length (c .before .before .before .before .before .before .args .block .now)
+within c = found-at (c .before .before .before .before .before .before .args .block .now) (c .before .before .loop .at) (c .before .record-at .result) (c .before .record-at .ensures) (c .before .before .loop .inv .0) .within
+
 add-end : tie.Need-add-end Inv-loop μ-loop
-add-end c = omega (arith, c .before .record-at .ensures .within)
-
-part-is-taken-end : tie.Need-part-is-taken-end Inv-loop μ-loop
-part-is-taken-end c = omega (arith, c .before .record-at .ensures .within)
-
-is-taken-requires : tie.Need-is-taken-requires Inv-loop μ-loop
-is-taken-requires c κs =
-    let e = record-here (c .before .before .before .before .before .before .before .args .block .now) (c .before .before .before .loop .at) (c .before .before .record-at .result) (c .before .before .record-at .ensures) (c .before .if2 .left) in
-    simp (length-take, length-drop) (omega (arith, c .before .before .record-at .ensures .within, e))
+add-end c = omega (arith, within c)
 
 part-add-record-end : tie.Need-part-add-record-end Inv-loop μ-loop
-part-add-record-end c = omega (arith, c .before .before .before .before .before .record-at .ensures .within)
+part-add-record-end c = omega (arith, within (c .before .before .before))
 
 loop-less : tie.Need-loop-less Inv-loop μ-loop
-loop-less c = omega (arith, c .before .before .before .before .before .before .before .before .before .record-at .ensures .within, c .before .before .before .before .before .before .before .before .if2 .left)
+loop-less c = omega (arith, within (c .before .before .before .before .before .before .before), c .before .before .before .before .before .before .before .if2 .left)
 
 loop-again : tie.Need-loop-again Inv-loop μ-loop
 loop-again c =
-    let a = c .before .before .before .before .before .before .before .before .before .before .before .before .before .before .args in
-    let l = c .before .before .before .before .before .before .before .before .before .before .loop in
+    let a = c .before .before .before .before .before .before .before .before .before .before .before .before .before .args in
+    let l = c .before .before .before .before .before .before .before .before .before .loop in
     let s = a .block .now in
-    let n = c .before .before .before .before .before .before .before .before .before .record-at .result in
-    let p = c .before .before .before .before .before .before .before .before .before .record-at .ensures in
+    let rec = c .before .before .before .before .before .before .before .before .record-at .result in
     let o = sym (c .before .before .before .before .before .if3 .taken) ∙ c .before .before .before .before .before .before .is-taken .ensures in
-    let k = c .before .before .add-record .ensures in (
-      p .within,
-      ap length (k .store′) ∙ one-long (both (l .grown) (l .store)) (take (l .at + n - l .at) (drop (l .at) s)) ∙ l .inv .1,
-      l .inv .2 ∙ left-more (a .network) s (l .at) n p (l .grown) (l .store) (c .before .before .before .before .before .before .before .before .if2 .left) o (c .before .before .add-record .result) (c .before .before .add-record .last .0) k,
+    let k = c .before .before .add-record in (
+      within (c .before .before .before .before .before .before .before),
+      ap length (k .ensures .store′) ∙ one-long (both (l .grown) (l .store)) (take (l .at + rec .size - l .at) (drop (l .at) s)) ∙ l .inv .1,
+      l .inv .2 ∙ left-more (a .network) s (l .at) rec (c .before .before .before .before .before .before .before .before .record-at .ensures) (l .grown) (l .store) (c .before .before .before .before .before .before .before .if2 .left) o (k .result) (k .last .0) (k .ensures),
     )
 
 loop-less-2 : tie.Need-loop-less-2 Inv-loop μ-loop
-loop-less-2 c = omega (arith, c .before .before .before .before .record-at .ensures .within, c .before .before .before .if2 .left)
+loop-less-2 c = omega (arith, within (c .before .before), c .before .before .if2 .left)
 
 loop-again-2 : tie.Need-loop-again-2 Inv-loop μ-loop
 loop-again-2 c =
-    let a = c .before .before .before .before .before .before .before .before .before .args in
-    let l = c .before .before .before .before .before .loop in
+    let a = c .before .before .before .before .before .before .before .before .args in
+    let l = c .before .before .before .before .loop in
     let o = sym (c .if3 .left) ∙ c .before .is-taken .ensures in (
-      c .before .before .before .before .record-at .ensures .within,
+      within (c .before .before),
       l .inv .1,
-      l .inv .2 ∙ left-skip (a .network) (a .block .now) (l .at) (c .before .before .before .before .record-at .result) (c .before .before .before .before .record-at .ensures) (l .grown) (l .store) (c .before .before .before .if2 .left) o,
+      l .inv .2 ∙ left-skip (a .network) (a .block .now) (l .at) (c .before .before .before .record-at .result) (c .before .before .before .record-at .ensures) (l .grown) (l .store) (c .before .before .if2 .left) o,
     )
 
 same-length : tie.Need-same-length Inv-loop μ-loop
@@ -80,6 +75,6 @@ returns-2 c =
 pub add-records-spec : {M : Type 1} → statement M
 add-records-spec =
     tie.close
-    (tie.spec Inv-loop μ-loop returns loop-holds (λ c κs. search needs) add-end (λ c. search needs) (λ c. search needs)
-    part-is-taken-end is-taken-requires (λ c. search needs) (λ c. search needs) part-add-record-end (λ c κs. search needs)
-    loop-less loop-again loop-less-2 loop-again-2 same-length returns-2)
+    (tie.spec Inv-loop μ-loop returns loop-holds (λ c κs. search needs) add-end (λ c κs. search needs) (λ c. search needs)
+    (λ c. search needs) part-add-record-end (λ c κs. search needs) loop-less loop-again loop-less-2 loop-again-2 same-length
+    returns-2)

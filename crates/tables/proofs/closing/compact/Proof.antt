@@ -4,11 +4,11 @@ use mathlib.Core.Path.{_≡_, refl, sym, ap, _∙_, subst}
 use mathlib.Core.List.{List}
 use native.Mathlib.Omega.{arith}
 use borrow.Author.Tests.{not-true, not-false}
-use lib.ListN.{length, take, drop, length-take, length-drop}
+use lib.ListN.{length, take, drop, length-drop}
 use lib.Seq.{length-paste}
+use Rattle.records.specs.Record.{foundIn}
 use Rattle.tables.specs.Steps.{stayingBytes}
-use Rattle.tables.proofs.Records.{record-here}
-use Rattle.tables.proofs.Staying.{Packing, piece-in, pack-within, pack-skip, pack-keep, pack-done}
+use Rattle.tables.proofs.Staying.{Packing, found-part, pack-within, pack-skip, pack-keep, pack-done}
 use borrow.Author.Needs.{needs}
 use Rattle.tables.proofs.closing.compact.Statement.{statement}
 use Rattle.tables.proofs.closing.compact.Tie as tie
@@ -23,66 +23,56 @@ abbrev μ-loop : tie.MeasureT-loop
 loop-holds : tie.Need-loop-holds Inv-loop μ-loop
 loop-holds c = (omega arith, omega arith, refl, refl)
 
-record-at-requires : tie.Need-record-at-requires Inv-loop μ-loop
-record-at-requires c κs = simp length-take (omega arith)
+-- what stands at `from` in the used bytes
+found : (c : tie.After-record-at Inv-loop μ-loop) → c .record-at .result ≡ foundIn (drop (c .before .before .before .loop .from) (take (c .before .before .before .before .before .args .used) (c .before .before .before .loop .live)))
+found c = found-part (c .before .before .before .loop .live) (c .before .before .before .before .before .args .used) (c .before .before .before .loop .from) (c .record-at .result) (c .record-at .ensures)
 
--- the record that was found ends within the used bytes
-within : (c : tie.Else1 Inv-loop μ-loop) → (8 ≤ c .before .record-at .result) × (c .before .before .before .before .loop .from + c .before .record-at .result ≤ c .before .before .before .before .before .before .args .used)
+-- a record that was found ends within the used bytes
+within : (c : tie.Else1 Inv-loop μ-loop) → c .before .before .before .before .loop .from + c .before .record-at .result .size ≤ c .before .before .before .before .before .before .args .used
 within c =
-    let l = c .before .before .before .before .loop in
     let a = c .before .before .before .before .before .before .args in
-    let n = c .before .record-at .result in
-    let p = piece-in (l .live) (a .used) (l .from) n (c .before .record-at .ensures) in
-    (record-here (take (a .used) (l .live)) (l .from) n p (c .if1 .left), pack-within (a .network) (l .live) (a .used) (l .from) n (omega arith) p (c .if1 .left))
+    let l = c .before .before .before .before .loop in
+    pack-within (a .network) (l .live) (a .used) (l .from) (omega arith) (l .inv .1) (c .before .record-at .result) (found (c .before)) (c .if1 .left)
 
 add-end : tie.Need-add-end Inv-loop μ-loop
-add-end c = omega (arith, within c .1)
-
-part-is-named-end : tie.Need-part-is-named-end Inv-loop μ-loop
-part-is-named-end c = omega (arith, within (c .before) .1)
-
-is-named-requires : tie.Need-is-named-requires Inv-loop μ-loop
-is-named-requires c κs = simp (length-take, length-drop) (omega (arith, within (c .before .before) .0, within (c .before .before) .1))
+add-end c = omega (arith, within c)
 
 move-down-requires : tie.Need-move-down-requires Inv-loop μ-loop
-move-down-requires c κs = (omega arith, omega (arith, within (c .before .before .before .before .before) .1))
+move-down-requires c κs = (omega arith, omega (arith, within (c .before .before .before)))
 
 add-to : tie.Need-add-to Inv-loop μ-loop
-add-to c = omega (arith, within (c .before .before .before .before .before .before .before .before) .1)
+add-to c = omega (arith, within (c .before .before .before .before .before .before))
 
 loop-less : tie.Need-loop-less Inv-loop μ-loop
-loop-less c = omega (arith, within (c .before .before .before .before .before .before .before .before) .0, within (c .before .before .before .before .before .before .before .before) .1)
+loop-less c = omega (arith, within (c .before .before .before .before .before .before), c .before .before .before .before .before .before .if1 .left)
 
 loop-again : tie.Need-loop-again Inv-loop μ-loop
 loop-again c =
-    let a = c .before .before .before .before .before .before .before .before .before .before .before .before .before .before .args in
-    let l = c .before .before .before .before .before .before .before .before .before .before .before .before .loop in
-    let n = c .before .before .before .before .before .before .before .before .before .record-at .result in
-    let p = piece-in (l .live) (a .used) (l .from) n (c .before .before .before .before .before .before .before .before .before .record-at .ensures) in
+    let a = c .before .before .before .before .before .before .before .before .before .before .before .before .args in
+    let l = c .before .before .before .before .before .before .before .before .before .before .loop in
+    let rec = c .before .before .before .before .before .before .before .record-at .result in
     let g = stayingBytes (a .network) (take (a .used) (a .live .now)) in
     let o = sym (not-true _ (c .before .before .before .before .if2 .taken)) ∙ c .before .before .before .before .before .is-named .ensures in
-    let room : l .from + n ≤ length (l .live) = omega (arith, within (c .before .before .before .before .before .before .before .before) .1) in (
+    let room : l .from + rec .size ≤ length (l .live) = omega (arith, within (c .before .before .before .before .before .before)) in (
       omega (arith, l .inv .0),
-      within (c .before .before .before .before .before .before .before .before) .1,
-      ap length (c .before .before .move-down .ensures) ∙ length-paste (l .live) (l .to) (drop (l .from) (l .live)) n (omega arith) (simp length-drop (omega arith)) ∙ l .inv .2,
-      subst (λ (x : List ℕ). Packing g (a .network) (a .used) x (l .from + n) (l .to + n)) (sym (c .before .before .move-down .ensures))
-          (pack-keep (a .network) (l .live) (a .used) (l .from) n (omega arith) p (c .before .before .before .before .before .before .before .before .if1 .left) g (l .to) (l .inv .0) o (l .inv .3)),
+      within (c .before .before .before .before .before .before),
+      ap length (c .before .before .move-down .ensures) ∙ length-paste (l .live) (l .to) (drop (l .from) (l .live)) (rec .size) (omega arith) (simp length-drop (omega arith)) ∙ l .inv .2,
+      subst (λ (x : List ℕ). Packing g (a .network) (a .used) x (l .from + rec .size) (l .to + rec .size)) (sym (c .before .before .move-down .ensures))
+          (pack-keep (a .network) (l .live) (a .used) (l .from) (omega arith) (l .inv .1) rec (found (c .before .before .before .before .before .before .before)) (c .before .before .before .before .before .before .if1 .left) g (l .to) (l .inv .0) o (l .inv .3)),
     )
 
 loop-less-2 : tie.Need-loop-less-2 Inv-loop μ-loop
-loop-less-2 c = omega (arith, within (c .before .before .before .before) .0, within (c .before .before .before .before) .1)
+loop-less-2 c = omega (arith, within (c .before .before), c .before .before .if1 .left)
 
 loop-again-2 : tie.Need-loop-again-2 Inv-loop μ-loop
 loop-again-2 c =
-    let a = c .before .before .before .before .before .before .before .before .before .before .args in
-    let l = c .before .before .before .before .before .before .before .before .loop in
-    let n = c .before .before .before .before .before .record-at .result in
-    let p = piece-in (l .live) (a .used) (l .from) n (c .before .before .before .before .before .record-at .ensures) in
+    let a = c .before .before .before .before .before .before .before .before .args in
+    let l = c .before .before .before .before .before .before .loop in
     let o = sym (not-false _ (c .if2 .left)) ∙ c .before .is-named .ensures in (
       omega (arith, l .inv .0),
-      within (c .before .before .before .before) .1,
+      within (c .before .before),
       l .inv .2,
-      pack-skip (a .network) (l .live) (a .used) (l .from) n (omega arith) p (c .before .before .before .before .if1 .left) (stayingBytes (a .network) (take (a .used) (a .live .now))) (l .to) o (l .inv .3),
+      pack-skip (a .network) (l .live) (a .used) (l .from) (omega arith) (l .inv .1) (c .before .before .before .record-at .result) (found (c .before .before .before)) (c .before .before .if1 .left) (stayingBytes (a .network) (take (a .used) (a .live .now))) (l .to) o (l .inv .3),
     )
 
 same-length : tie.Need-same-length Inv-loop μ-loop
@@ -92,13 +82,10 @@ returns : tie.Need-returns Inv-loop μ-loop
 returns c =
     let a = c .before .before .before .before .before .before .args in
     let l = c .before .before .before .before .loop in
-    let n = c .before .record-at .result in
-    pack-done (a .network) (a .live .now) (l .live) (a .used) (l .from) (l .to) n (piece-in (l .live) (a .used) (l .from) n (c .before .record-at .ensures)) (c .if1 .taken)
-    (omega arith) (l .inv .2) (l .inv .3)
+    pack-done (a .network) (a .live .now) (l .live) (a .used) (l .from) (l .to) (c .before .record-at .result) (found (c .before)) (c .if1 .taken) (omega arith) (l .inv .2) (l .inv .3)
 
 pub compact-spec : {M : Type 1} → statement M
 compact-spec =
     tie.close
-    (tie.spec Inv-loop μ-loop loop-holds (λ c. search needs) (λ c. search needs) (λ c. search needs) record-at-requires
-    add-end (λ c. search needs) (λ c. search needs) part-is-named-end is-named-requires move-down-requires add-to loop-less
-    loop-again loop-less-2 loop-again-2 same-length returns)
+    (tie.spec Inv-loop μ-loop loop-holds (λ c. search needs) (λ c. search needs) (λ c. search needs) (λ c κs. search needs)
+    add-end (λ c κs. search needs) move-down-requires add-to loop-less loop-again loop-less-2 loop-again-2 same-length returns)

@@ -1,5 +1,6 @@
--- `Parts`, `Laws`, `Laid` and `Pieces` serve the proofs of calls that answer so, `Promises` say what the promise fixes.
+-- `Parts`, `DigitLaws`, `Laws`, `Laid` and `Pieces` serve the proofs of calls that answer so, `Promises` say what the promise fixes.
 pub mod Parts
+pub mod DigitLaws
 pub mod Laws
 pub mod Laid
 pub mod Pieces

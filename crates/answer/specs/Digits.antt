@@ -1,5 +1,5 @@
 -- Digits and texts, as messages and table records write them.
-use Prim.Native.Nat.{ℕ, _+_, _-_, _*_}
+use Prim.Native.Nat.{ℕ, _+_, _*_, _%_}
 use mathlib.Core.Bool.{Bool, _&&_}
 use mathlib.Core.List.{List}
 use lib.ListN.{getD}
@@ -13,9 +13,9 @@ isDigit b = leb 0x30 b && leb b 0x39
 abbrev pub isText : ℕ → Bool
 isText b = leb 0x20 b && leb b 0x7e
 
--- what a digit stands for; a byte below the digits counts 0
+-- what a digit stands for: 30h to 39h are 0 to 9, their low four bits
 abbrev pub digitOf : ℕ → ℕ
-digitOf b = b - 0x30
+digitOf b = b % 16
 
 -- the number that two digits at a place write
 abbrev pub twoDigitsAt : List ℕ → ℕ → ℕ

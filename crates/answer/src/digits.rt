@@ -17,9 +17,9 @@ pub fn is_text(b: u8) -> bool
     (0x20 <= b) & (b <= 0x7e)
 }
 
-// What a digit stands for; a byte below the digits counts 0.
+// What a digit stands for: 30h to 39h are 0 to 9, which is what their low four bits are.
 pub fn digit_of(b: u8) -> usize
     ensures { λ r. ⌜ (r ≡ digitOf b) × (r < 256) ⌝ }
 {
-    if 0x30 <= b { (b - 0x30) as usize } else { 0 }
+    (b % 16) as usize
 }

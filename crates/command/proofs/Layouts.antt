@@ -7,16 +7,14 @@ use native.Mathlib.Omega.{arith}
 use lib.ListN.{length, getD, take, drop, length-drop}
 use lib.Dec.{leb, eqb}
 use borrow.Author.Tests.{eq-eqb, ne-eqb, eqb-true, le-leb, lt-leb, leb-true}
-use Rattle.answer.specs.Digits.{isDigit, digitOf, twoDigitsAt, threeAt}
+use Rattle.answer.specs.Digits.{isDigit, twoDigitsAt, threeAt}
 use Rattle.answer.proofs.Parts.{and-left, and-right, rest-part}
+use Rattle.answer.proofs.DigitLaws.{digit-nine}
 use Rattle.records.specs.Record.{goodBlock}
 use Rattle.command.specs.Texts.{ascii, starts, allText}
 use Rattle.command.specs.Command.{networkAt, networkOf, gtsGood, tliGood, tlrGood}
 
 -- ---- a network
-
-digit-nine : (b : ℕ) → isDigit b ≡ true → digitOf b ≤ 9
-digit-nine b e = let h = leb-true b 0x39 (and-right (leb 0x30 b) (leb b 0x39) e) in omega arith
 
 pub network-small : (p : List ℕ) → networkAt p ≡ true → networkOf p < 100
 network-small p e =

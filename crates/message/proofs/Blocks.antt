@@ -122,8 +122,8 @@ digits xs e =
 
 -- digits that are read, and written again
 module _ (a b c : ℕ) (la : 0x30 ≤ a) (ha : a ≤ 0x39) (lb : 0x30 ≤ b) (hb : b ≤ 0x39) (lc : 0x30 ≤ c) (hc : c ≤ 0x39) where
-  three-back : threeOf ((a - 0x30) * 100 + (b - 0x30) * 10 + (c - 0x30)) ≡ a ∷ b ∷ c ∷ []
-  three-back =
+  three-low : threeOf ((a - 0x30) * 100 + (b - 0x30) * 10 + (c - 0x30)) ≡ a ∷ b ∷ c ∷ []
+  three-low =
       let n = (a - 0x30) * 100 + (b - 0x30) * 10 + (c - 0x30) in
       let x : 0x30 + n / 100 ≡ a = omega arith in
       let t : n / 10 ≡ (a - 0x30) * 10 + (b - 0x30) = omega arith in
@@ -131,9 +131,23 @@ module _ (a b c : ℕ) (la : 0x30 ≤ a) (ha : a ≤ 0x39) (lb : 0x30 ≤ b) (hb
       let z : 0x30 + n % 10 ≡ c = omega arith in
       rw (x, y, z) refl
 
+  three-back : threeOf (a % 16 * 100 + b % 16 * 10 + c % 16) ≡ a ∷ b ∷ c ∷ []
+  three-back =
+      let x : a % 16 ≡ a - 0x30 = omega arith in
+      let y : b % 16 ≡ b - 0x30 = omega arith in
+      let z : c % 16 ≡ c - 0x30 = omega arith in
+      ap threeOf (ap (λ k. k * 100 + b % 16 * 10 + c % 16) x ∙ ap (λ k. (a - 0x30) * 100 + k * 10 + c % 16) y ∙ ap (λ k. (a - 0x30) * 100 + (b - 0x30) * 10 + k) z) ∙ three-low
+
 -- digits that are written, and read again
+digit-back : (d : ℕ) → d ≤ 9 → (0x30 + d) % 16 ≡ d
+digit-back d h = omega arith
+
 three-is : (n : ℕ) (s : List ℕ) → n ≤ 999 → threeAt (threeOf n ++ s) ≡ n
-three-is n s h = omega arith
+three-is n s h =
+    let x : n / 100 ≤ 9 = omega arith in
+    let y : n / 10 % 10 ≤ 9 = omega arith in
+    let z : n % 10 ≤ 9 = omega arith in
+    rw (digit-back (n / 100) x, digit-back (n / 10 % 10) y, digit-back (n % 10) z) (omega arith)
 
 digit-is : (d : ℕ) → d ≤ 9 → isDigit (0x30 + d) ≡ true
 digit-is d h = rw (le-leb 0x30 (0x30 + d) (omega arith), le-leb (0x30 + d) 0x39 (omega arith)) refl

@@ -14,6 +14,7 @@ use Rattle.answer.proofs.Pieces.{Sizes, AllPieces, all-pieces, pieces-cons, pie
 use Rattle.records.specs.declared.Found.{Found}
 use Rattle.records.specs.Record.{kindOf, networkOf, lengthGood, networkGood, indexGood, startsRecord, recordIn, recordAs, noRecord, foundIn, recs, takesAs, takes, namesAs, isNamed}
 use Rattle.answer.proofs.Parts.{and-left, and-right}
+use Rattle.answer.proofs.DigitLaws.{digit-nine}
 
 -- ---- the size of a record, by the tests that the code makes
 
@@ -164,8 +165,8 @@ module _ (xs : List ℕ) where
         let a = isDigit (getD xs 4 0) in
         let b = isDigit (getD xs 5 0) in
         let g = and-left (a && b) (indexGood xs) (starts xs some .rest-good) in
-        let h = leb-true (getD xs 4 0) 0x39 (and-right (leb 0x30 (getD xs 4 0)) (leb (getD xs 4 0) 0x39) (and-left a b g)) in
-        let i = leb-true (getD xs 5 0) 0x39 (and-right (leb 0x30 (getD xs 5 0)) (leb (getD xs 5 0) 0x39) (and-right a b g)) in
+        let h = digit-nine (getD xs 4 0) (and-left a b g) in
+        let i = digit-nine (getD xs 5 0) (and-right a b g) in
         omega (arith, h, i)
 
 -- past the end

@@ -24,8 +24,8 @@ pub record RecordSamples : Type 0 where
   pub too-short : recordIn (0x30 ∷ 0x30 ∷ 0x37 ∷ 0x31 ∷ 0x30 ∷ 0x31 ∷ 0x41 ∷ 0x41 ∷ []) ≡ 0
   pub bad-index : recordIn (small 0x31 0x31 0x1f) ≡ 0
   pub cut-off : recordIn (0x30 ∷ 0x30 ∷ 0x39 ∷ 0x31 ∷ 0x30 ∷ 0x31 ∷ 0x41 ∷ 0x41 ∷ []) ≡ 0
-  -- the record of 02 stands at 8, and none at 16
-  pub found-second : foundIn (b ++ (0x30 ∷ [])) ≡ record { size = 8; kind = 0x32; network = 2 }
+  -- a record of 02 is found with its kind and its network; where none stands all is 0
+  pub found-whole : foundIn (b ++ (0x30 ∷ [])) ≡ record { size = 8; kind = 0x32; network = 2 }
   pub found-none : foundIn (0x30 ∷ []) ≡ noRecord
   -- a good block of two, one that tells three, and one with a byte too many
   pub two-good : goodBlock (0x30 ∷ 0x32 ∷ (a ++ b)) ≡ true
@@ -34,7 +34,7 @@ pub record RecordSamples : Type 0 where
 
 pub record-samples : RecordSamples
 unfolding recordIn startsRecord foundIn goodBlock piecesFrom restFrom
-record-samples = record { whole-record = refl; too-short = refl; bad-index = refl; cut-off = refl; found-second = refl; found-none = refl; two-good = refl; three-told = refl; byte-left = refl }
+record-samples = record { whole-record = refl; too-short = refl; bad-index = refl; cut-off = refl; found-whole = refl; found-none = refl; two-good = refl; three-told = refl; byte-left = refl }
 
 pub record StoreSamples : Type 0 where
   -- a store of 24 bytes with two records: for 00 any network's will do

@@ -1,5 +1,5 @@
 // Table records: where one stands and what it is, and whether bytes are records as a whole, in a block or in a store (scope paper, section Commands).
-// No load is opened, added to or closed in here.
+// There is no open load, no command and no device in here.
 mod checking;
 mod record;
 

@@ -10,13 +10,13 @@ use lib.Dec.{leb, ltb}
 use borrow.Author.Tests.{le-leb, lt-leb, ltb-true, ltb-false}
 use Rattle.answer.specs.Pieces.{every}
 use Rattle.answer.specs.Laid.{pasted}
-use Rattle.tables.specs.declared.Load.{Load}
 use Rattle.records.specs.Record.{recordIn, recs, takes, goodBlock, recordsOf}
 use Rattle.records.specs.Store.{zeros, storeOf, fits, allZero, soundStore}
-use Rattle.tables.specs.Loading.{taken, takenOf, Kept, keepOne, keepAll, Stocked, hasRoom, stockOne, stockAll, Adds}
-use Rattle.answer.proofs.Parts.{and-left, and-right, flatten-append, every-append, all-join}
 use Rattle.records.proofs.Records.{AllRecords, recs-all}
 use Rattle.records.proofs.Stores.{SoundAs, sound-as, as-sound, fits-bytes, store-long, zeros-are, zeros-all}
+use Rattle.tables.specs.declared.Load.{Load}
+use Rattle.tables.specs.Loading.{taken, takenOf, Kept, keepOne, keepAll, Stocked, hasRoom, stockOne, stockAll, Adds}
+use Rattle.answer.proofs.Parts.{and-left, and-right, flatten-append, every-append, all-join}
 use Rattle.tables.proofs.Stocking.{both}
 
 -- ---- a store that holds what is kept, told right

@@ -6,15 +6,15 @@ use Prim.Native.Nat.{ℕ, _+_}
 use lib.ListN.{length, take, length-append}
 use lib.Dec.{eqb}
 use Rattle.answer.specs.Pieces.{every}
+use Rattle.records.specs.Record.{recordIn, recs, kindOf, networkOf, isKind, takes, isNamed}
+use Rattle.records.specs.Store.{storeOf, fits, soundStore}
+use Rattle.records.proofs.Records.{AllRecords}
+use Rattle.records.proofs.Stores.{SoundAs, sound-as, as-sound, used-part, sound-recs, fits-bytes, store-long, store-none, zeros-sound}
 use Rattle.tables.specs.declared.Extent.{Extent}
 use Rattle.tables.specs.declared.Load.{Load}
 use Rattle.tables.specs.declared.Closed.{Closed}
-use Rattle.records.specs.Record.{recordIn, recs, kindOf, networkOf, isKind, takes, isNamed}
-use Rattle.records.specs.Store.{storeOf, fits, soundStore}
 use Rattle.tables.specs.Closing.{notNamed, newSet, newBytes, newRecords, closes, Closes}
 use Rattle.answer.proofs.Parts.{and-left, and-right, flatten-append, every-append, all-join}
-use Rattle.records.proofs.Records.{AllRecords}
-use Rattle.records.proofs.Stores.{SoundAs, sound-as, as-sound, used-part, sound-recs, fits-bytes, store-long, store-none, zeros-sound}
 
 -- ---- what a load for one network takes, a load for 00 takes
 

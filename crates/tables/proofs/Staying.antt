@@ -9,10 +9,10 @@ use lib.Seq.{drop-drop, take-take, length-take-le, take-paste, drop-paste}
 use Rattle.answer.proofs.Pieces.{piece-more, piece-none}
 use Rattle.records.specs.declared.Found.{Found}
 use Rattle.records.specs.Record.{recordIn, foundIn, recs, namesAs, isNamed}
+use Rattle.records.proofs.Records.{record-le, size-is, found-at, found-names}
 use Rattle.tables.specs.Closing.{notNamed}
 use Rattle.tables.specs.Steps.{stayingBytes, moved, Compacts}
 use Rattle.answer.proofs.Parts.{drop-take}
-use Rattle.records.proofs.Records.{record-le, size-is, found-at, found-names}
 
 -- how many stay
 abbrev pub stayingCount : ℕ → List ℕ → ℕ

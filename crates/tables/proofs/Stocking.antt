@@ -11,13 +11,13 @@ use Rattle.answer.specs.Pieces.{piecesFrom}
 use Rattle.answer.specs.Laid.{pasted}
 use Rattle.answer.proofs.Laid.{pasted-length}
 use Rattle.answer.proofs.Pieces.{piece-more, piece-none}
-use Rattle.tables.specs.declared.Load.{Load}
 use Rattle.records.specs.declared.Found.{Found}
 use Rattle.records.specs.Record.{recordIn, foundIn, recs, takesAs, takes, goodBlock, recordsOf}
+use Rattle.records.proofs.Records.{record-le, size-is, found-takes}
+use Rattle.tables.specs.declared.Load.{Load}
 use Rattle.tables.specs.Loading.{Stocked, hasRoom, stockOne, stockAll, taken, takenOf, stocked, Adds}
 use Rattle.tables.specs.Steps.{Stocks, stockedAll, StocksAll}
 use Rattle.answer.proofs.Parts.{and-left, and-right, piece-part}
-use Rattle.records.proofs.Records.{record-le, size-is, found-takes}
 
 -- the store keeps its size
 pub one-long : (s : Stocked) (r : List ℕ) → length (stockOne s r .bytes) ≡ length (s .bytes)

@@ -6,9 +6,9 @@ use mathlib.Core.List.{List, [], _∷_, _++_}
 use lib.ListN.{length}
 use lib.Dec.{leb, ltb}
 use Rattle.answer.specs.Laid.{pasted}
-use Rattle.tables.specs.declared.Load.{Load}
 use Rattle.records.specs.Record.{takes, recordsOf, goodBlock}
 use Rattle.records.specs.Store.{fits}
+use Rattle.tables.specs.declared.Load.{Load}
 
 -- ---- said of records
 

@@ -16,12 +16,13 @@ use Rattle.state.specs.State.{State, stateAs, deviceAs, lineIn, withLine, heldA
 use Rattle.state.specs.Sound.{lineSound, heldSound, refusalOf}
 use Rattle.state.proofs.Accepting.{line-short}
 use Rattle.device.specs.declared.Received.{Received}
-use Rattle.device.specs.declared.Gathered.{Gathered}
+use Rattle.gathering.specs.declared.Gathered.{Gathered}
 use Rattle.device.specs.declared.Replied.{Replied}
 use Rattle.device.specs.Events.Event.{timeout, restart}
 use Rattle.device.specs.Promise.{Left, afterPiece, afterEvent, unless, Gives, Answers}
-use Rattle.device.specs.Steps.{asksIn, Got, gathered, Gathers, Told′, repliedIn, Does}
-use Rattle.device.proofs.Calling.{gathered-within, gathered-asks}
+use Rattle.gathering.specs.Gathering.{asksIn, Got, gathered, Gathers}
+use Rattle.device.specs.Steps.{Told′, repliedIn, Does}
+use Rattle.gathering.proofs.Kept.{gathered-within, gathered-asks}
 use Rattle.device.proofs.Replies.{Known}
 use Rattle.device.proofs.Leaving.{lineTo, gatheredIn, piece-asked, piece-silent, timeout-left, restart-left}
 

@@ -15,8 +15,10 @@ use Rattle.device.specs.Machine.Holding.{nothing}
 use Rattle.device.specs.Events.Event.{timeout, restart}
 use Rattle.device.specs.Between.{machineOf, stateOf}
 use Rattle.device.specs.Promise.{Left, afterPiece, afterEvent}
-use Rattle.device.specs.Steps.{asksIn, Got, gathered, withDevice, repliedIn}
-use Rattle.device.proofs.Calling.{calledBy, call-gathered, gathered-asks}
+use Rattle.gathering.specs.Gathering.{asksIn, Got, gathered}
+use Rattle.device.specs.Steps.{withDevice, repliedIn}
+use Rattle.gathering.proofs.Kept.{gathered-asks}
+use Rattle.device.proofs.Calling.{calledBy, call-gathered}
 use Rattle.device.proofs.Replies.{Known, held-back, can-is, state-parts, known-line, replied-state, replied-reply}
 
 -- the state with another line and reception store

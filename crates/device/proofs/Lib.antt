@@ -1,8 +1,7 @@
 -- `Calling`: a call of the machine is gathering, and then at most one answered byte. `Replies`: an answered byte, on the state. `Leaving`: what a call
--- leaves of the state. `Knowing`: what a call that is not refused knows. `Giving`: what the public calls give. `Short`: no reply is longer than 43 bytes. `Back`: state and machine, both ways. `Sending`, `Turns` and `Running` serve the
+-- leaves of the state. `Knowing`: what a call that is not refused knows. `Giving`: what the public calls give. `Short`: no reply is longer than 43 bytes. `Back`: state and machine, both ways. `Sending` and `Running` serve the
 -- functions.
 pub mod Sending
-pub mod Turns
 pub mod Running
 pub mod Calling
 pub mod Replies

@@ -28,7 +28,8 @@ use Rattle.state.specs.Sound.{heldSound}
 use Rattle.device.specs.Machine.{Holding, Stepped, goodPacket, payloadOf, runs, refuses, completes, cancels, again, takes}
 use Rattle.device.specs.Machine.Holding.{nothing, holding}
 use Rattle.device.specs.Between.{holdingIn, machineOf, heldOf, stateOf}
-use Rattle.device.specs.Steps.{asksIn, sentAgain, Told′, tells, withDevice, cancelled, resent, refused, ran, completed, repliedIn}
+use Rattle.gathering.specs.Gathering.{asksIn}
+use Rattle.device.specs.Steps.{sentAgain, Told′, tells, withDevice, cancelled, resent, refused, ran, completed, repliedIn}
 use Rattle.device.proofs.Calling.{canSend}
 
 -- what holds of the tables of a state, and of the length of its held response

@@ -24,7 +24,8 @@ use Rattle.state.specs.declared.Held.{Held}
 use Rattle.state.specs.State.{State, deviceAs, storedIn, canResend}
 use Rattle.device.specs.declared.Replied.{Replied}
 use Rattle.device.specs.Machine.{goodPacket}
-use Rattle.device.specs.Steps.{asksIn, payloadIn, Told′, tells, withDevice, cancelled, resent, refused, ran, completed, repliedIn, Says, Does, Sends}
+use Rattle.gathering.specs.Gathering.{asksIn}
+use Rattle.device.specs.Steps.{payloadIn, Told′, tells, withDevice, cancelled, resent, refused, ran, completed, repliedIn, Says, Does, Sends}
 
 module _ (p : List ℕ) (s : Stored) (r : Executed) (live′ loading′ : List ℕ) (g : Executes p s r live′ loading′) where
   length-is : r .response .length ≡ length (responded p s)

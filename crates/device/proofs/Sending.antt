@@ -14,12 +14,6 @@ use Rattle.packet.specs.Packet.{packetOf, writePacket}
 use Rattle.packet.proofs.Stuffing.{stuff-two, packet-long}
 use Rattle.device.specs.Steps.{Sends}
 
--- a byte past the end of a list is not set
-pub set-past : (l : List ℕ) (i b : ℕ) → length l ≤ i → set l i b ≡ l
-set-past [] i b h = refl
-set-past (x ∷ l) zero b h = absurd (omega arith)
-set-past (x ∷ l) (suc i) b h = ap (λ (k : List ℕ). x ∷ k) (set-past l i b (omega arith))
-
 -- the packet of a response fits in 63 bytes
 pub packet-short : (p : List ℕ) → length p ≤ 19 → length (packetOf p) ≤ 63
 packet-short p h = omega (arith, stuff-two p, packet-long p)

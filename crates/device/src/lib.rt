@@ -1,5 +1,4 @@
 // The device end of the line (scope paper, sections Reception, Commands and Numbered refusals of calls).
-mod gathering;
 mod replying;
 
 use execution::drop_load;
@@ -42,14 +41,6 @@ pub struct Received {
 pub struct Started {
     pub device: Device,
     pub refusal: u8,
-}
-
-// Where the line is before the byte that is answered, if one is, how many bytes are taken with it, and that byte.
-struct Gathered {
-    line: Line,
-    taken: usize,
-    asked: bool,
-    last: u8,
 }
 
 // The device after a reply, and how many bytes were written.

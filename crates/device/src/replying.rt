@@ -19,7 +19,8 @@ ghost use Rattle.answer.specs.Answers.{over};
 ghost use Rattle.packet.specs.Packet.{packetOf};
 ghost use Rattle.state.specs.State.{stateAs, canResend};
 ghost use Rattle.device.specs.Machine.{goodPacket};
-ghost use Rattle.device.specs.Steps.{asksIn, cancelled, resent, ran, completed, repliedIn, Says, Does, Sends};
+ghost use Rattle.gathering.specs.Gathering.{asksIn};
+ghost use Rattle.device.specs.Steps.{cancelled, resent, ran, completed, repliedIn, Says, Does, Sends};
 ghost use Rattle.device.specs.Steps.{refused as refusedState};
 
 // Writes the response's packet to the start of `out`, and tells its length.

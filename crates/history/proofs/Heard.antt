@@ -18,7 +18,7 @@ use Rattle.reception.specs.Reception.{lineOf, idle, tookOf, started, goingOn, s
 use Rattle.device.specs.Events.{Event}
 use Rattle.device.specs.Events.Event.{byte, timeout, restart}
 use Rattle.device.specs.Machine.{goodPacket}
-use Rattle.device.specs.Steps.{placedIn}
+use Rattle.gathering.specs.Gathering.{placedIn}
 use Rattle.history.specs.Text.{Item}
 use Rattle.history.specs.Text.Item.{good, bad, can, nak}
 use Rattle.history.specs.Ran.{Seen, items}

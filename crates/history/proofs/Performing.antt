@@ -22,7 +22,7 @@ use Rattle.device.specs.Events.{Event}
 use Rattle.device.specs.Events.Event.{byte, timeout, restart}
 use Rattle.device.specs.Machine.{Holding, Machine, Stepped, on, holds, silent, goodPacket, runs, refuses, completes, hears, cancels, again, takes, restarted as restartedOf, step}
 use Rattle.device.specs.Machine.Holding.{nothing, holding}
-use Rattle.device.specs.Steps.{placedIn}
+use Rattle.gathering.specs.Gathering.{placedIn}
 use Rattle.history.specs.Text.{Item}
 use Rattle.history.specs.Text.Item.{good, bad, can, nak}
 use Rattle.history.specs.Ran.{Seen, items, Ran, ranIn}

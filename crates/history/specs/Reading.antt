@@ -13,7 +13,7 @@ use Rattle.state.specs.State.{isIdle}
 use Rattle.device.specs.Events.{Event}
 use Rattle.device.specs.Events.Event.{byte, timeout, restart}
 use Rattle.device.specs.Machine.{Machine, Stepped, goodPacket, silent, step}
-use Rattle.device.specs.Steps.{placedIn}
+use Rattle.gathering.specs.Gathering.{placedIn}
 use Rattle.history.specs.Text.{Item}
 use Rattle.history.specs.Text.Item.{good, bad, can, nak}
 use Rattle.history.specs.Ran.{Seen, items}

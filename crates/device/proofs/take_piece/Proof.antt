@@ -8,7 +8,7 @@ use borrow.Author.Tests.{not-true, not-false}
 use Rattle.state.specs.declared.Device.{Device}
 use Rattle.state.specs.State.{State, stateAs, canResend}
 use Rattle.state.proofs.Accepting.{Arrays, held-short, line-good, held-good}
-use Rattle.device.specs.Steps.{asksIn}
+use Rattle.gathering.specs.Gathering.{asksIn}
 use Rattle.device.proofs.Replies.{Known}
 use Rattle.device.proofs.Knowing.{known}
 use Rattle.device.proofs.Giving.{got-within, got-asks, silent-gives, asked-gives}

@@ -4,7 +4,8 @@ use native.Mathlib.Omega.{arith}
 use borrow.Author.Needs.{needs}
 use Rattle.reception.specs.declared.Reception.the-variants.{Idle, InData, After13h, FirstCheck, SecondCheck}
 use Rattle.state.specs.State.{stateAs, canResend}
-use Rattle.device.specs.Steps.{asksIn, repliedIn}
+use Rattle.gathering.specs.Gathering.{asksIn}
+use Rattle.device.specs.Steps.{repliedIn}
 use Rattle.device.proofs.Running.{does-as, does-says, is-nak, idle-can, idle-nak, none-said, can-resend}
 use Rattle.device.proofs.replying.reply_to.Statement.{statement}
 use Rattle.device.proofs.replying.reply_to.Tie as tie

@@ -1,7 +1,7 @@
--- `device::gathering::asks` meets its contract: the state picks the case.
+-- `gathering::asks` meets its contract: the state picks the case.
 use borrow.Author.Needs.{needs}
-use Rattle.device.proofs.gathering.asks.Statement.{statement}
-use Rattle.device.proofs.gathering.asks.Tie as tie
+use Rattle.gathering.proofs.asks.Statement.{statement}
+use Rattle.gathering.proofs.asks.Tie as tie
 
 returns : tie.Need-returns
 returns c = simp (c .enum-told .given .1)

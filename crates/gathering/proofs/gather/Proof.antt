@@ -1,14 +1,13 @@
--- `device::gathering::gather` meets its contract. The invariant: what is gathered of the whole piece is what is gathered of the rest from here.
+-- `gathering::gather` meets its contract. The invariant: what is gathered of the whole piece is what is gathered of the rest from here.
 use Prim.Native.Nat.{ℕ, _≤_, _<_, _+_, _-_}
 use mathlib.Core.Path.{_≡_, refl, sym, ap, _∙_}
 use native.Mathlib.Omega.{arith}
 use lib.ListN.{length, drop, getD}
 use borrow.Author.Needs.{needs}
-use Rattle.device.specs.Steps.{Got, gathered}
-use Rattle.device.proofs.Calling.{gather-last, gather-more, gather-none}
-use Rattle.device.proofs.Turns.{gathers, placed-long}
-use Rattle.device.proofs.gathering.gather.Statement.{statement}
-use Rattle.device.proofs.gathering.gather.Tie as tie
+use Rattle.gathering.specs.Gathering.{Got, gathered}
+use Rattle.gathering.proofs.Kept.{gathers, placed-long, gather-last, gather-more, gather-none}
+use Rattle.gathering.proofs.gather.Statement.{statement}
+use Rattle.gathering.proofs.gather.Tie as tie
 
 abbrev Inv-loop : tie.InvT-loop
 Inv-loop store₀ piece resend at₀ i₀ store at i = (i ≤ length piece) × (length store ≡ length store₀) × (gathered resend at₀ store₀ 0 piece ≡ gathered resend at store i (drop i piece))

@@ -1,10 +1,10 @@
--- `device::gathering::place` meets its contract: a byte past the end would have no place, and none is set.
+-- `gathering::place` meets its contract: a byte past the end would have no place, and none is set.
 use mathlib.Core.Path.{_≡_, sym, _∙_}
 use native.Mathlib.Omega.{arith}
 use borrow.Author.Needs.{needs}
-use Rattle.device.proofs.Sending.{set-past}
-use Rattle.device.proofs.gathering.place.Statement.{statement}
-use Rattle.device.proofs.gathering.place.Tie as tie
+use Rattle.gathering.proofs.Kept.{set-past}
+use Rattle.gathering.proofs.place.Statement.{statement}
+use Rattle.gathering.proofs.place.Tie as tie
 
 returns-2 : tie.Need-returns-2
 returns-2 c = simp (c .before .before .told .given .1)

@@ -1,12 +1,19 @@
-// Bytes that are not answered: they move the line and fill the reception store, and no other part of the device.
-use crate::Gathered;
+// Bytes up to one that is answered: they move the line and fill the reception store (scope paper, section Reception). Nothing is answered in here.
 use reception::Line;
 use reception::Reception;
 use reception::Told;
 use reception::take;
 ghost use mathlib.Core.Path.{_≡_};
 ghost use mathlib.Core.Bool.{true};
-ghost use Rattle.device.specs.Steps.{asksIn, placedIn, gathered, Gathers};
+ghost use Rattle.gathering.specs.Gathering.{asksIn, placedIn, gathered, Gathers};
+
+// Where the line is before the byte that is answered, if one is, how many bytes are taken with it, and that byte.
+pub struct Gathered {
+    pub line: Line,
+    pub taken: usize,
+    pub asked: bool,
+    pub last: u8,
+}
 
 // Whether `b` is answered: CAN between packets, NAK too where there is something to send again, and a second check byte.
 fn asks(line: Line, b: u8, resend: bool) -> bool
@@ -50,7 +57,7 @@ fn stop_at(line: Line, taken: usize, last: u8) -> Gathered
 }
 
 // Takes bytes up to the one that is answered, or all of them.
-pub(crate) fn gather(line: Line, store: &mut [u8], piece: &[u8], resend: bool) -> Gathered
+pub fn gather(line: Line, store: &mut [u8], piece: &[u8], resend: bool) -> Gathered
     ensures { λ r. ⌜ Gathers (gathered resend line (now (store .entry)) 0 (now (piece .entry))) r (now (store .exit)) ⌝ }
 {
     let mut at = line;

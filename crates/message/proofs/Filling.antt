@@ -1,14 +1,14 @@
 -- The laws of filling blocks with parameters: what is filled, and that blocks which were filled so are filled so again.
 use mathlib.Core.Path.{_≡_, refl, sym, ap, _∙_, subst}
 use mathlib.Core.Bool.{Bool, true, false, cond}
-use mathlib.Core.List.{List, [], _∷_, _++_, append-nil, map, flatten}
+use mathlib.Core.List.{List, [], _∷_, _++_, append-assoc, append-nil, map, flatten}
 use Prim.Native.Nat.{ℕ, zero, suc, pred, _+_, _-_, _≤_, _<_}
 use native.Mathlib.Omega.{arith}
-use lib.ListN.{length, take, drop, length-append, length-take, length-drop}
+use lib.ListN.{length, take, drop, length-append, length-take, length-drop, take-append-drop}
 use lib.Seq.{take-at, drop-at, length-take-le, drop-append-seam, take-append-seam}
 use lib.Dec.{leb, ltb}
 use borrow.Author.Tests.{le-leb, lt-leb, leb-true, leb-false, lt-ltb, ltb-true}
-use Rattle.answer.specs.Pieces.{pieceThen, piecesFrom, rest, restFrom, every}
+use Rattle.answer.specs.Pieces.{pieceThen, piecesFrom, restThen, rest, restFrom, every}
 use Rattle.answer.specs.Laid.{PieceAt}
 use Rattle.answer.proofs.Pieces.{piece-more, piece-none, pieces-cons, rest-cons, from-le, flatten-pieces, all-append}
 use Rattle.parameters.specs.Parameters.{parameterIn, parameters, wholeList, dataOf}
@@ -16,7 +16,7 @@ use Rattle.message.specs.Blocks.{blockOf, filled, firstIn, fill, greedy}
 use Rattle.message.specs.Message.{short}
 use Rattle.message.specs.Steps.{EndsAt}
 use Rattle.answer.proofs.Parts.{and-left, and-right, flatten-append, every-append}
-use Rattle.parameters.proofs.Parameters.{parameter-le, parameter-sizes, piece-long, AllP, parameters-all, parameters-flat, whole-flat, flat-parameters, whole-some, both-parameters, AllWhole, join-whole}
+use Rattle.parameters.proofs.Parameters.{parameter-le, parameter-sizes, piece-long, AllP, parameters-all, parameters-flat, whole-flat, flat-parameters, whole-some, both-parameters, AllWhole, all-whole, join-whole}
 use Rattle.message.proofs.Blocks.{Sized}
 
 -- ---- how much goes into the first block
@@ -84,6 +84,17 @@ module _ (s : List ℕ) (at e : ℕ) (p : EndsAt firstIn s at e) where
   pub blocks-none : e ≡ at → flatten (map blockOf (fill (drop at s))) ≡ []
   unfolding flatten
   blocks-none h = ap (λ (x : List (List ℕ)). flatten (map blockOf x)) (fill-none h)
+
+  pub joined-more : (e ≡ at → ⊥) → length (flatten (fill (drop at s))) ≡ e - at + length (flatten (fill (drop e s)))
+  unfolding flatten
+  joined-more h =
+      let l : length (take (e - at) (drop at s)) ≡ e - at = length-take-le (e - at) (drop at s) (simp length-drop (omega (arith, p .within))) in
+      ap (λ (x : List (List ℕ)). length (flatten x)) (fill-more h) ∙ length-append (take (e - at) (drop at s)) (flatten (fill (drop e s)))
+      ∙ ap (λ (k : ℕ). k + length (flatten (fill (drop e s)))) l
+
+  pub joined-none : e ≡ at → length (flatten (fill (drop at s))) ≡ 0
+  unfolding flatten
+  joined-none h = ap (λ (x : List (List ℕ)). length (flatten x)) (fill-none h)
 
   pub part-999 : length (take (e - at) (drop at s)) ≤ 999
   part-999 = simp length-take (omega (arith, p .is, first-999 (drop at s)))
@@ -162,6 +173,54 @@ back-over n (p ∷ ps) q qs e = cases (leb (n + length p) 999) refl (back-over (
         let h : p ≡ q = cc in
         omega (arith, ap (λ (x : List ℕ). length x) h)
 
+-- ---- whatever the list, its blocks are whole parameters, one after another from its start
+
+-- the pieces of a list, and what is left of it
+pieces-rest : (size : List ℕ → ℕ) (k : ℕ) (xs : List ℕ) → flatten (piecesFrom size k xs) ++ restFrom size k xs ≡ drop k xs
+unfolding piecesFrom restFrom flatten
+pieces-rest size zero [] = refl
+pieces-rest size (suc k) [] = refl
+pieces-rest size (suc k) (x ∷ xs) = pieces-rest size k xs
+pieces-rest size zero (x ∷ xs) = cases (size (x ∷ xs)) (λ k. pieces-rest size k xs)
+  where
+    cases : (n : ℕ) → ((k : ℕ) → flatten (piecesFrom size k xs) ++ restFrom size k xs ≡ drop k xs)
+        → flatten (pieceThen n (x ∷ xs) (piecesFrom size (pred n) xs)) ++ restThen n (x ∷ xs) (restFrom size (pred n) xs) ≡ x ∷ xs
+    cases zero ih = refl
+    cases (suc n) ih =
+        append-assoc (take (suc n) (x ∷ xs)) (flatten (piecesFrom size n xs)) (restFrom size n xs)
+        ∙ ap (λ (l : List ℕ). x ∷ (take n xs ++ l)) (ih n) ∙ ap (λ (l : List ℕ). x ∷ l) (take-append-drop n xs)
+
+first-whole : (xs : List ℕ) → wholeList (take (firstIn xs) xs) ≡ true
+unfolding firstIn
+first-whole xs =
+    let ps = parameters xs in
+    let f = front 0 ps in
+    let b = back 0 ps in
+    let left = rest parameterIn xs in
+    let n : firstIn xs ≡ length (flatten f) = filled-front 0 ps ∙ omega arith in
+    let split : flatten f ++ (flatten b ++ left) ≡ xs =
+    sym (append-assoc (flatten f) (flatten b) left) ∙ ap (λ (l : List ℕ). l ++ left) (sym (flatten-append f b) ∙ ap flatten (front-back 0 ps)) ∙ pieces-rest parameterIn 0 xs in
+    let t : take (firstIn xs) xs ≡ flatten f =
+    ap (λ (m : ℕ). take m xs) n ∙ ap (take (length (flatten f))) (sym split) ∙ take-append-seam (flatten f) (flatten b ++ left) in
+    ap wholeList t ∙ whole-flat f (all-append parameterIn f b (subst AllP (sym (front-back 0 ps)) (parameters-all xs)) .0)
+
+lists-from : (k : ℕ) (xs : List ℕ) → every wholeList (piecesFrom firstIn k xs) ≡ true
+unfolding piecesFrom every
+lists-from zero [] = refl
+lists-from (suc k) [] = refl
+lists-from (suc k) (x ∷ xs) = lists-from k xs
+lists-from zero (x ∷ xs) = cases (firstIn (x ∷ xs)) refl (λ k. lists-from k xs)
+  where
+    cases : (n : ℕ) → firstIn (x ∷ xs) ≡ n → ((k : ℕ) → every wholeList (piecesFrom firstIn k xs) ≡ true)
+        → every wholeList (pieceThen n (x ∷ xs) (piecesFrom firstIn (pred n) xs)) ≡ true
+    cases zero e ih = refl
+    cases (suc n) e ih = let w = ap (λ (m : ℕ). wholeList (take m (x ∷ xs))) (sym e) ∙ first-whole (x ∷ xs) in rw w (ih n)
+
+pub fill-lists : (list : List ℕ) → every wholeList (fill list) ≡ true
+fill-lists list = lists-from 0 list
+
+-- ---- blocks that hold all of a good list
+
 -- each parameter goes into one block
 abbrev Small : List (List ℕ) → Type 0
 Small [] = Unit {0}
@@ -175,7 +234,7 @@ small-short : (ps : List (List ℕ)) → every short ps ≡ true → Small ps
 unfolding every
 small-short [] e = tt
 small-short (p ∷ ps) e =
-    let h = leb-true (length (dataOf p)) 995 (and-left (short p) (every short ps) e) in
+    let h = leb-true (length (dataOf p)) _ (and-left (short p) (every short ps) e) in
     (omega (arith, simp length-drop at h), small-short ps (and-right (short p) (every short ps) e))
 
 -- the first block of parameters, and the others
@@ -249,18 +308,16 @@ greedy-cons x (q ∷ qs) a s o g =
 -- what holds of the blocks that parameters fill
 record Filled (ps : List (List ℕ)) : Type 0 where
   all : rest firstIn (flatten ps) ≡ []
-  lists : every wholeList (fill (flatten ps)) ≡ true
   greed : greedy (fill (flatten ps)) ≡ true
 
 abbrev FillsTo : ℕ → Type 0
 FillsTo k = (ps : List (List ℕ)) → length ps ≤ k → AllP ps → Small ps → Filled ps
 
 fills-none : Filled []
-unfolding flatten restFrom piecesFrom every greedy
-fills-none = record { all = refl; lists = refl; greed = refl }
+unfolding flatten restFrom piecesFrom greedy
+fills-none = record { all = refl; greed = refl }
 
 fills-more : (k : ℕ) → FillsTo k → FillsTo (suc k)
-unfolding every
 fills-more k ih [] h a s = fills-none
 fills-more k ih (p ∷ ps) h a s =
     let d = first-of p ps a (s .0) in
@@ -270,7 +327,6 @@ fills-more k ih (p ∷ ps) h a s =
     let r = ih (d .others) (omega arith) (b .1) (t .1) in
     record {
       all = rest-is p ps d ∙ r .all;
-      lists = ap (every wholeList) (fill-is p ps d) ∙ rw (whole-flat (d .block) (b .0)) (r .lists);
       greed = ap greedy (fill-is p ps d) ∙ greedy-cons (flatten (d .block)) (d .others) (b .1) (t .1) (d .next) (r .greed);
     }
 
@@ -289,9 +345,6 @@ module _ (list : List ℕ) (good : wholeList list ≡ true) (fit : every short (
 
   same : flatten (parameters list) ≡ list
   same = flat-parameters list good
-
-  pub fill-lists : every wholeList (fill list) ≡ true
-  fill-lists = ap (λ (l : List ℕ). every wholeList (fill l)) (sym same) ∙ all-filled .lists
 
   pub fill-greedy : greedy (fill list) ≡ true
   fill-greedy = ap (λ (l : List ℕ). greedy (fill l)) (sym same) ∙ all-filled .greed
@@ -357,7 +410,7 @@ piece-short [] h = refl
 piece-short (p ∷ ps) h =
     let l = length-append p (flatten ps) in
     let d = length-drop 4 p in
-    let t : short p ≡ true = le-leb (length (dataOf p)) 995 (omega arith) in
+    let t : short p ≡ true = le-leb (length (dataOf p)) _ (omega arith) in
     rw t (piece-short ps (omega arith))
 
 pub join-short : (bs : List (List ℕ)) → AllWhole bs → Sized bs → every short (parameters (flatten bs)) ≡ true
@@ -367,3 +420,23 @@ join-short (b ∷ bs) w s =
     let e = ap (λ (l : List ℕ). length l) (flat-parameters b (w .0)) in
     ap (every short) (both-parameters b (flatten bs) (w .0) (join-whole bs (w .1)))
     ∙ every-append short (parameters b) (parameters (flatten bs)) (piece-short (parameters b) (omega (arith, e, s .1))) (join-short bs (w .1) (s .2))
+
+-- ---- blocks that hold all of a list show that it is good
+
+none-left : (l : List ℕ) → length l ≡ 0 → l ≡ []
+none-left [] e = refl
+none-left (x ∷ l) e = absurd (omega arith)
+
+module _ (list : List ℕ) (held : length (flatten (fill list)) ≡ length list) where
+  blocks-are : flatten (fill list) ≡ list
+  blocks-are =
+      let left = rest firstIn list in
+      let s : flatten (fill list) ++ left ≡ list = pieces-rest firstIn 0 list in
+      let n : length left ≡ 0 = omega (arith, held, simp length-append at (ap length s)) in
+      flatten-pieces firstIn first-le list (none-left left n)
+
+  pub held-whole : wholeList list ≡ true
+  held-whole = ap wholeList (sym blocks-are) ∙ join-whole (fill list) (all-whole (fill list) (fill-lists list))
+
+  pub held-short : every short (parameters list) ≡ true
+  held-short = ap (λ (l : List ℕ). every short (parameters l)) (sym blocks-are) ∙ join-short (fill list) (all-whole (fill list) (fill-lists list)) (fill-sized list)

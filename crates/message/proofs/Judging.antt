@@ -1,5 +1,5 @@
 -- What the reader and the writer come to, by the tests that they make.
-use mathlib.Core.Path.{_≡_, refl, ap, _∙_}
+use mathlib.Core.Path.{_≡_, refl, sym, ap, _∙_}
 use mathlib.Core.Bool.{Bool, true, false, cond}
 use mathlib.Core.List.{List, _++_, map, flatten}
 use Prim.Native.Nat.{ℕ, _+_, _-_, _*_, _≤_, _<_}
@@ -16,7 +16,7 @@ use Rattle.message.specs.Blocks.{blocksOf, blockOf, fill}
 use Rattle.message.specs.Message.{headLength, headGood, framed, listRead, readMessage, messageOf, short, messageSized, writeMessage}
 use Rattle.answer.proofs.Parts.{rest-part}
 use Rattle.message.proofs.Blocks.{blocks-long}
-use Rattle.message.proofs.Filling.{flatten-fill}
+use Rattle.message.proofs.Filling.{flatten-fill, held-whole, held-short}
 
 -- ---- the reader
 
@@ -53,17 +53,30 @@ module _ (head : List ℕ) (response : Bool) (list : List ℕ) where
   unfolding writeMessage
   write-headless a = rw a refl
 
-  pub write-broken : headGood response head ≡ true → wholeList list ≡ false → writeMessage head response list ≡ Refused 21
+  write-broken : headGood response head ≡ true → wholeList list ≡ false → writeMessage head response list ≡ Refused 21
   unfolding writeMessage
   write-broken a b = rw (a, b) refl
 
-  pub write-long : headGood response head ≡ true → wholeList list ≡ true → every short (parameters list) ≡ false → writeMessage head response list ≡ Refused 22
+  write-long : headGood response head ≡ true → wholeList list ≡ true → every short (parameters list) ≡ false → writeMessage head response list ≡ Refused 22
   unfolding writeMessage
   write-long a b c = rw (a, b, c) refl
 
   pub write-fit : headGood response head ≡ true → wholeList list ≡ true → every short (parameters list) ≡ true → writeMessage head response list ≡ messageSized (messageOf head list)
   unfolding writeMessage
   write-fit a b c = rw (a, b, c) refl
+
+  -- a list that its blocks do not hold to its end is broken, or has a parameter that is too long for a block
+  pub write-unheld : (n : ℕ) → headGood response head ≡ true → (length (flatten (fill list)) ≡ length list → ⊥) → n ≡ cond (wholeList list) 22 21
+      → writeMessage head response list ≡ Refused n
+  write-unheld n a h e = cases (wholeList list) (every short (parameters list)) refl refl
+    where
+      cases : (b c : Bool) → wholeList list ≡ b → every short (parameters list) ≡ c → writeMessage head response list ≡ Refused n
+      cases false c f g = write-broken a f ∙ ap Refused (sym (e ∙ rw f refl))
+      cases true false f g = write-long a f g ∙ ap Refused (sym (e ∙ rw f refl))
+      cases true true f g = absurd (h (ap (λ (l : List ℕ). length l) (flatten-fill list f g)))
+
+  pub write-held : headGood response head ≡ true → length (flatten (fill list)) ≡ length list → writeMessage head response list ≡ messageSized (messageOf head list)
+  write-held a h = write-fit a (held-whole list h) (held-short list h)
 
 -- ---- the bytes of a message
 
@@ -75,8 +88,8 @@ module _ (head list : List ℕ) where
   unfolding messageOf
   message-blocks = length-append head blocks
 
-  pub message-long : wholeList list ≡ true → every short (parameters list) ≡ true → length (messageOf head list) ≡ length head + length list + 3 * length (fill list)
-  message-long g f = omega (arith, message-blocks, blocks-long (fill list), ap (λ (l : List ℕ). length l) (flatten-fill list g f))
+  pub message-long : length (flatten (fill list)) ≡ length list → length (messageOf head list) ≡ length head + length list + 3 * length (fill list)
+  message-long h = omega (arith, message-blocks, blocks-long (fill list), h)
 
   -- the head in the buffer leaves room for the blocks, where there is room for the message
   pub blocks-room : (out out₁ : List ℕ) (n : ℕ) → length (messageOf head list) ≤ length out → Puts out 0 head n out₁ → n + length blocks ≤ length out₁

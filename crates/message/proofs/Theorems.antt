@@ -96,7 +96,7 @@ list-back head response list m e =
     let bs : blocksOf (bodyOf response (head ++ b)) ≡ fill list = ap blocksOf body ∙ written-blocks (fill list) (fill-sized list) in
     ap (readMessage response) (sym (w .is))
     ∙ reads response (head ++ b) (w .long) (ap (headGood response) top ∙ w .headed) (ap (whole blockIn) body ∙ written-whole (fill list) (fill-sized list))
-    (ap (every wholeList) bs ∙ fill-lists list (w .good) (w .fit))
+    (ap (every wholeList) bs ∙ fill-lists list)
     ∙ ap Good (ap flatten bs ∙ flatten-fill list (w .good) (w .fit))
 
 -- MESSAGE TO LIST TO MESSAGE, where the blocks were filled that way

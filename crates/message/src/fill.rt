@@ -1,31 +1,16 @@
 // Blocks, filled with the parameters of a list and written.
 use parameters::parameter_at;
-ghost use mathlib.Core.Path.{_≡_};
 ghost use mathlib.Core.List.{map, flatten};
 ghost use Prim.Native.Nat.{_+_, _≤_};
 ghost use lib.ListN.{length};
 ghost use Rattle.answer.specs.Laid.{Puts};
-ghost use Rattle.answer.specs.Pieces.{every};
-ghost use Rattle.parameters.specs.Parameters.{parameters};
 ghost use Rattle.message.specs.Blocks.{blockOf, firstIn, fill};
-ghost use Rattle.message.specs.Message.{short};
-ghost use Rattle.message.specs.Steps.{EndsAt};
+ghost use Rattle.message.specs.Steps.{EndsAt, Measures};
 
-// Whether each parameter of `list` goes into one block.
-pub(crate) fn all_short(list: &[u8]) -> bool
-    ensures { λ r. ⌜ r ≡ every short (parameters (now (list .entry))) ⌝ }
-{
-    let mut at = 0;
-    loop {
-        let n = parameter_at(list, at);
-        if n == 0 {
-            return true;
-        }
-        if 999 < n {
-            return false;
-        }
-        at += n;
-    }
+// How many blocks a list fills, and where the last of them ends.
+pub(crate) struct Measured {
+    pub(crate) blocks: usize,
+    pub(crate) end: usize,
 }
 
 // Where the block that starts with the parameter at `start` is full, or the list at its end.
@@ -47,9 +32,9 @@ fn block_end(list: &[u8], start: usize) -> usize
     at
 }
 
-// How many blocks `list` fills.
-pub(crate) fn count_blocks(list: &[u8]) -> usize
-    ensures { λ r. ⌜ r ≡ length (fill (now (list .entry))) ⌝ }
+// Fills blocks with `list` without writing them. They end before the first parameter that is broken or too long for a block.
+pub(crate) fn measure(list: &[u8]) -> Measured
+    ensures { λ r. ⌜ Measures (now (list .entry)) r ⌝ }
 {
     let mut n = 0;
     let mut at = 0;
@@ -61,7 +46,7 @@ pub(crate) fn count_blocks(list: &[u8]) -> usize
         n += 1;
         at = end;
     }
-    n
+    Measured { blocks: n, end: at }
 }
 
 // Puts the block that holds `s` at `at` and tells the place after it.

@@ -7,13 +7,14 @@ use answer::Answer;
 use answer::refused;
 use parameters::whole_list;
 ghost use mathlib.Core.Path.{_≡_};
-ghost use mathlib.Core.Bool.{true};
+ghost use mathlib.Core.Bool.{cond};
+ghost use mathlib.Core.List.{flatten};
 ghost use Prim.Native.Nat.{_≤_};
 ghost use lib.ListN.{length};
 ghost use Rattle.answer.specs.Answers.{Gives};
-ghost use Rattle.answer.specs.Pieces.{every};
-ghost use Rattle.parameters.specs.Parameters.{parameters, wholeList};
-ghost use Rattle.message.specs.Message.{headLength, framed, listRead, readMessage, short, messageOf, messageSized, writeMessage};
+ghost use Rattle.parameters.specs.Parameters.{wholeList};
+ghost use Rattle.message.specs.Blocks.{fill};
+ghost use Rattle.message.specs.Message.{headLength, framed, listRead, readMessage, messageOf, messageSized, writeMessage};
 
 // ---- the reader
 
@@ -68,24 +69,30 @@ pub fn write_message(head: &[u8], response: bool, list: &[u8], out: &mut [u8]) -
     if !head::head_good(head, response) {
         return refused(20);
     }
-    if !whole_list(list) {
-        return refused(21);
+    let measured = fill::measure(list);
+    if measured.end != list.len() {
+        return refused(list_refusal(list));
     }
-    if !fill::all_short(list) {
-        return refused(22);
-    }
-    write_good(head, list, out)
+    write_good(head, list, measured.blocks, out)
 }
 
-// Gives the message of a good head and a good list. A list over 2,048 bytes is refused first, so that the sum cannot wrap.
-fn write_good(head: &[u8], list: &[u8], out: &mut [u8]) -> Answer
-    requires { ⌜ (length (now head) ≤ 6) × (wholeList (now list) ≡ true) × (every short (parameters (now list)) ≡ true) ⌝ }
+// The number of the refusal of a list that its blocks do not hold to its end.
+fn list_refusal(list: &[u8]) -> u8
+    ensures { λ r. ⌜ r ≡ cond (wholeList (now (list .entry))) 22 21 ⌝ }
+{
+    if whole_list(list) { 22 } else { 21 }
+}
+
+// Gives the message of a good head and of a list that its blocks hold to its end. A list over 2,048 bytes is refused first, so that the
+// sum cannot wrap.
+fn write_good(head: &[u8], list: &[u8], blocks: usize, out: &mut [u8]) -> Answer
+    requires { ⌜ (length (now head) ≤ 6) × (length (flatten (fill (now list))) ≡ length (now list)) × (blocks ≡ length (fill (now list))) ⌝ }
     ensures { λ r. ⌜ Gives (messageSized (messageOf (now (head .entry)) (now (list .entry)))) (now (out .entry)) r (now (out .exit)) ⌝ }
 {
     if 2048 < list.len() {
         return refused(23);
     }
-    let n = head.len() + list.len() + 3 * fill::count_blocks(list);
+    let n = head.len() + list.len() + 3 * blocks;
     if 2048 < n {
         return refused(23);
     }

@@ -2,6 +2,7 @@
 -- refusals of calls).
 use Prim.Native.Nat.{ℕ}
 use mathlib.Core.Bool.{Bool, not, _&&_, cond}
+use mathlib.Core.List.{List}
 use lib.ListN.{length, take, drop}
 use lib.Dec.{leb, ltb, eqb}
 use Rattle.records.specs.Store.{allZero}
@@ -12,8 +13,11 @@ use Rattle.state.specs.declared.Device.{Device}
 use Rattle.state.specs.State.{State, storedIn, isIdle}
 
 -- refusal 2: both stores are 32,768 bytes
+abbrev pub bothSized : List ℕ → List ℕ → Bool
+bothSized live loading = eqb (length live) 32768 && eqb (length loading) 32768
+
 unfoldable pub isSized : State → Bool
-isSized x = eqb (length (x .live)) 32768 && eqb (length (x .loading)) 32768
+isSized x = bothSized (x .live) (x .loading)
 
 -- between packets no payload byte is placed and nothing is spoiled; in a packet at most 2,048 bytes are placed
 unfoldable pub lineSound : Device → Bool

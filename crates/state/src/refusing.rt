@@ -6,15 +6,12 @@ use execution::tables_sound;
 use reception::Reception;
 use records::rest_is_zero;
 ghost use mathlib.Core.Path.{_≡_};
-ghost use mathlib.Core.Bool.{_&&_};
-ghost use lib.ListN.{length};
-ghost use lib.Dec.{eqb};
 ghost use Rattle.state.specs.State.{stateAs, isIdle, canResend};
-ghost use Rattle.state.specs.Sound.{lineSound, heldSound, sound, refusalOf};
+ghost use Rattle.state.specs.Sound.{bothSized, lineSound, heldSound, sound, refusalOf};
 
 // Whether both stores have their size.
 pub fn sizes_good(live: &[u8], loading: &[u8]) -> bool
-    ensures { λ r. ⌜ r ≡ (eqb (length (now (live .entry))) 32768 && eqb (length (now (loading .entry))) 32768) ⌝ }
+    ensures { λ r. ⌜ r ≡ bothSized (now (live .entry)) (now (loading .entry)) ⌝ }
 {
     (live.len() == 32768) & (loading.len() == 32768)
 }

@@ -11,7 +11,7 @@ use lib.Dec.{leb}
 use borrow.Author.Tests.{le-leb, lt-leb, leb-true}
 use Rattle.answer.specs.Pieces.{every}
 use Rattle.answer.specs.Laid.{PieceAt}
-use Rattle.answer.proofs.Pieces.{AllPieces}
+use Rattle.answer.specs.Claims.{AllPieces}
 
 pub and-left : (a b : Bool) → (a && b) ≡ true → a ≡ true
 and-left true b e = refl

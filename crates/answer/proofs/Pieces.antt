@@ -1,13 +1,13 @@
 -- The laws of pieces, for any size function: a walk over them, and there and back.
 use mathlib.Core.Path.{_≡_, refl, sym, ap, _∙_}
-use mathlib.Core.Bool.{Bool, true, false, _&&_, false≢true}
+use mathlib.Core.Bool.{true, false, false≢true}
 use mathlib.Core.List.{List, [], _∷_, _++_, flatten}
 use Prim.Native.Nat.{ℕ, zero, suc, pred, _+_, _-_, _≤_, _<_}
 use native.Mathlib.Omega.{arith}
 use lib.ListN.{length, take, drop, length-append, length-take, length-drop, take-append-drop, drop-of-length-le}
 use lib.Seq.{drop-drop, take-at, drop-at, length-take-le}
-use Rattle.answer.specs.Pieces.{pieceThen, piecesFrom, pieces, restThen, restFrom, rest, isNone, whole, every}
-use Rattle.answer.specs.Laid.{PieceAt}
+use Rattle.answer.specs.Pieces.{pieceThen, piecesFrom, pieces, restThen, restFrom, rest, isNone, whole}
+use Rattle.answer.specs.Claims.{AllPieces}
 
 -- ---- what is left, as a test
 
@@ -156,11 +156,6 @@ module _ (size : List ℕ → ℕ) (le : (xs : List ℕ) → size xs ≤ length 
   rest-none xs = rest-none-from 0 xs
 
 -- ---- pieces that are given
-
--- each of ps is one piece
-abbrev pub AllPieces : (List ℕ → ℕ) → List (List ℕ) → Type 0
-AllPieces size [] = Unit {0}
-AllPieces size (p ∷ ps) = (size p ≡ length p) × (length p ≡ 0 → ⊥) × AllPieces size ps
 
 pub all-append : (size : List ℕ → ℕ) (a b : List (List ℕ)) → AllPieces size (a ++ b) → AllPieces size a × AllPieces size b
 all-append size [] b h = (tt, h)

@@ -3,3 +3,4 @@ pub mod Answers
 pub mod Pieces
 pub mod Digits
 pub mod Laid
+pub mod Claims

@@ -1,7 +1,7 @@
 -- What a payload commands, by its name and layout (scope paper, section Commands).
 use Prim.Native.Nat.{ℕ}
 use mathlib.Core.Bool.{Bool, _&&_, cond}
-use mathlib.Core.List.{List}
+use mathlib.Core.List.{List, [], _∷_, _++_}
 use lib.ListN.{length, getD, drop}
 use lib.Dec.{leb, eqb}
 use Rattle.answer.specs.Digits.{isDigit, twoDigitsAt, threeAt}
@@ -31,6 +31,19 @@ tlrGood p =
     leb 6 (length p)
     && (isDigit (getD p 3 0) && (isDigit (getD p 4 0) && (isDigit (getD p 5 0)
     && (eqb (threeAt (drop 3 p)) (length (drop 6 p)) && goodBlock (drop 6 p)))))
+
+-- THE CASES, by the command table's values: the name that is answered and the status that name and layout alone give (000, 011 for a wrong layout, ERR010
+-- for what is no command), and then the network, where one is named. The promise cites it
+unfoldable pub rowOf : Command → List ℕ
+rowOf Opn = ascii "OPN000"
+rowOf (Gts n) = ascii "GTS000" ++ (n ∷ [])
+rowOf GtsWrong = ascii "GTS011"
+rowOf (Tli n) = ascii "TLI000" ++ (n ∷ [])
+rowOf TliWrong = ascii "TLI011"
+rowOf Tlr = ascii "TLR000"
+rowOf TlrWrong = ascii "TLR011"
+rowOf Tle = ascii "TLE000"
+rowOf Unknown = ascii "ERR010"
 
 -- ---- by name: a wrong layout is told apart, but OPN and TLE with more bytes are unknown
 

@@ -1,3 +1,4 @@
 -- In the order of reading.
 pub mod Texts
 pub mod Command
+pub mod Claims

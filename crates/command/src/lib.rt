@@ -9,7 +9,7 @@ ghost use Rattle.answer.specs.Digits.{threeAt};
 ghost use Prim.Native.Nat.{_≤_, _<_};
 ghost use lib.ListN.{length};
 ghost use Rattle.command.specs.Texts.{starts, allText};
-ghost use Rattle.command.specs.Command.{networkAt, networkOf, gtsGood, tliGood, tlrGood, opnOf, gtsOf, tliOf, tlrOf, tleOf, commandOf};
+ghost use Rattle.command.specs.Command.{networkAt, networkOf, gtsGood, tliGood, tlrGood, rowOf, opnOf, gtsOf, tliOf, tlrOf, tleOf, commandOf};
 
 // The command of a payload. A network is that of the command; TLI's version is the ten bytes from place 8 on, and TLR's block all from place 6 on.
 pub enum Command {
@@ -167,7 +167,7 @@ fn tle(p: &[u8]) -> Command
 
 // Which command `payload` is.
 pub fn command_of(payload: &[u8]) -> Command
-    ensures { λ r. ⌜ r ≡ commandOf (now (payload .entry)) ⌝ }
+    ensures { λ r. ⌜ rowOf r ≡ rowOf (commandOf (now (payload .entry))) ⌝ }
 {
     if starts_with(payload, b"OPN") {
         return opn(payload);

@@ -7,7 +7,8 @@ use Prim.Native.Nat.{ℕ, zero, suc, _+_, _-_, _≤_}
 use native.Mathlib.Nat.{add-sub-cancel}
 use native.Mathlib.Omega.{arith}
 use lib.ListN.{length, drop}
-use Rattle.crc16.specs.Crc.{xor, _⊕_, zeros, generator, divide, remainder}
+use Rattle.crc16.specs.Crc.{_⊕_, zeros, generator, divide, remainder}
+use Rattle.crc16.specs.Claims.{product, quotient}
 use Rattle.crc16.proofs.Sums.{sum-comm, sum-assoc, sum-swap, sum-zeros, sum-length}
 
 -- the generator without its leading coefficient
@@ -59,20 +60,6 @@ remainder-sum p q e h =
     ∙ ap₂ _⊕_ (sym (steps n p hp)) (sym (steps n q hq))
 
 -- ---- the division is one
-
--- the generator times q: for each coefficient of q that is 1 the generator, at that coefficient's place
-pub product : List Bool → List Bool
-unfolding zeros
-product [] = zeros 16
-product (false ∷ q) = false ∷ product q
-product (true ∷ q) = generator ⊕ (false ∷ product q)
-
--- the coefficients of the quotient: the leading coefficient at each of n steps
-pub quotient : ℕ → List Bool → List Bool
-quotient zero p = []
-quotient (suc n) [] = []
-quotient (suc n) (false ∷ p) = false ∷ quotient n p
-quotient (suc n) (true ∷ p) = true ∷ quotient n (p ⊕ low)
 
 -- p is the generator times the quotient, and the remainder
 division : (n : ℕ) (p : List Bool) → length p ≡ n + 16 → p ≡ product (quotient n p) ⊕ (zeros n ++ divide n p)

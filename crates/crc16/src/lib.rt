@@ -1,5 +1,5 @@
 // The check of a packet (scope paper, section Packet): a register of 16 bits, from 0, over the payload and then ETB.
-// It is shifted left one bit at a time, most significant bit first, masked and exclusive-ored.
+// Each byte's highest bit meets the register first; each bit costs one shift to the left, a mask and an exclusive or.
 ghost use mathlib.Core.Path.{_≡_};
 ghost use mathlib.Core.Bool.{false};
 ghost use mathlib.Core.List.{_∷_, []};

@@ -18,13 +18,16 @@ use Rattle.command.specs.Texts.{ascii, starts, allText}
 use Rattle.execution.specs.CommandTable.{same}
 use Rattle.execution.specs.Responses.{oneOf, sixBytes, givesVersion, isResponse}
 use Rattle.execution.specs.Stored.{storedOf}
-use Rattle.execution.proofs.Between.{Sized, LegalCore, core-back, legal-sized, legal-sound, sound-legal as tables-legal}
+use Rattle.execution.specs.Claims.{Sized}
+use Rattle.execution.proofs.Between.{core-back, legal-sized, legal-sound, sound-legal as tables-legal}
 use Rattle.state.specs.State.{State, lineIn, storedIn, isIdle}
 use Rattle.state.specs.Sound.{isSized, lineSound, heldSound, sound}
-use Rattle.state.proofs.Accepting.{sized-both, Arrays, line-good, held-good, tables-good}
+use Rattle.state.specs.Claims.{Arrays}
+use Rattle.state.proofs.Accepting.{sized-both, line-good, held-good, tables-good}
 use Rattle.device.specs.Machine.{Holding, Machine}
 use Rattle.device.specs.Machine.Holding.{nothing, holding}
 use Rattle.device.specs.Between.{holdingIn, machineOf, heldOf, stateOf}
+use Rattle.device.specs.Claims.{LegalLine, LegalHolding, Legal}
 use Rattle.device.proofs.Replies.{Known, held-back, state-parts}
 use Rattle.device.proofs.Knowing.{known}
 
@@ -76,19 +79,6 @@ response-long p e =
 
 -- ---- a machine that can be
 
--- between packets nothing is spoiled and no payload byte is placed; in a packet at most 2,048 are placed
-abbrev pub LegalLine : Reception → Bool → ℕ → Type 0
-LegalLine Idle spoiled count = (spoiled ≡ false) × (count ≡ 0)
-LegalLine InData spoiled count = count ≤ 2048
-LegalLine After13h spoiled count = count ≤ 2048
-LegalLine FirstCheck spoiled count = count ≤ 2048
-LegalLine (SecondCheck a) spoiled count = count ≤ 2048
-
--- a held response is one that the command table or ERR010 gives, sent again at most 3 times
-abbrev pub LegalHolding : Holding → Type 0
-LegalHolding nothing = Unit {0}
-LegalHolding (holding p n) = (isResponse p ≡ true) × (n ≤ 3)
-
 line-sound : (r : Reception) (spoiled : Bool) (count : ℕ) → LegalLine r spoiled count → cond (isIdle r) (eqb count 0 && not spoiled) (leb count 2048) ≡ true
 line-sound Idle spoiled count h = rw (h .0, h .1) refl
 line-sound InData spoiled count h = le-leb count 2048 h
@@ -110,13 +100,6 @@ holding-back : (r : Holding) → LegalHolding r → holdingIn (heldOf r .respons
 holding-back nothing h = refl
 holding-back (holding [] n) h = let l = response-long [] (h .0) in absurd (omega arith)
 holding-back (holding (x ∷ p) n) h = ap (λ (q : List ℕ). holding q n) (take-at (x ∷ p) (zeros (19 - length (x ∷ p))) (length (x ∷ p)) refl)
-
--- A LEGAL MACHINE
-pub record Legal (m : Machine) : Type 0 where
-  pub line-legal : LegalLine (m .line .state) (m .line .spoiled) (m .line .count)
-  pub store-long : length (m .store) ≡ 2048
-  pub response-legal : LegalHolding (m .response)
-  pub core-legal : LegalCore (m .core)
 
 -- a legal machine's state has that machine
 pub machine-back : (m : Machine) → Legal m → machineOf (stateOf m) ≡ m

@@ -1,12 +1,14 @@
 -- What a call that is not refused knows of its tables and its held response.
 use mathlib.Core.Path.{_≡_}
 use mathlib.Core.Bool.{true}
-use Rattle.execution.proofs.Between.{Sized, stored-back}
+use Rattle.execution.proofs.Between.{stored-back}
 use Rattle.execution.proofs.Executing.{executed-is, responded-is, dropped-is}
 use Rattle.state.specs.State.{State, storedIn}
 use Rattle.state.specs.Sound.{isSized, sound}
-use Rattle.state.proofs.Accepting.{sized-both, Arrays, tables-good}
+use Rattle.state.specs.Claims.{Arrays}
+use Rattle.state.proofs.Accepting.{sized-both, tables-good}
 use Rattle.device.proofs.Replies.{Known}
+use Rattle.execution.specs.Claims.{Sized}
 
 -- what is known where a call is not refused
 pub known : (x : State) → Arrays (x .device) → isSized x ≡ true → sound x ≡ true → Known x

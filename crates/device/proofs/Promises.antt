@@ -15,6 +15,7 @@ use Rattle.device.specs.Machine.{Machine, Stepped, Called, step, isNone,
 use Rattle.device.specs.Events.Event.{byte}
 use Rattle.device.specs.Between.{machineOf}
 use Rattle.device.specs.Promise.{Left, afterPiece, unless, Gives, Answers, Starts}
+use Rattle.device.specs.Claims.{Unchanged}
 
 -- ---- ONE RESULT: two results of a call that its promise allows for one entry are one
 
@@ -31,15 +32,6 @@ starts-one live loading r s a b a′ b′ g h =
     (g .result ∙ sym (h .result), g .live-is ∙ sym (h .live-is), g .loading-is ∙ sym (h .loading-is))
 
 -- ---- a refused call
-
--- it takes nothing, writes nothing, and the device and every byte of the three buffers are as they were
-pub record Unchanged (x : State) (out : List ℕ) (r : Received) (out′ live′ loading′ : List ℕ) : Type 0 where
-  pub device-stays : r .device ≡ x .device
-  pub none-taken : r .taken ≡ 0
-  pub none-written : r .written ≡ 0
-  pub out-stays : out′ ≡ out
-  pub live-stays : live′ ≡ x .live
-  pub loading-stays : loading′ ≡ x .loading
 
 unchanged : (n : ℕ) (x : State) (left : Left) (out : List ℕ) (r : Received) (a b c : List ℕ) → n ≢ 0
     → Gives n (unless n x left) out r a b c → Unchanged x out r a b c

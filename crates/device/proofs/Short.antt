@@ -14,7 +14,8 @@ use Rattle.execution.specs.Promise.{responded}
 use Rattle.execution.proofs.Executing.{responded-short}
 use Rattle.state.specs.State.{State, storedIn}
 use Rattle.state.specs.Sound.{heldSound, refusalOf}
-use Rattle.state.proofs.Accepting.{accepted, Arrays, held-short, held-good}
+use Rattle.state.specs.Claims.{Arrays}
+use Rattle.state.proofs.Accepting.{accepted, held-short, held-good}
 use Rattle.device.specs.declared.Received.{Received}
 use Rattle.device.specs.Machine.{goodPacket}
 use Rattle.device.specs.Promise.{Left, afterPiece, unless, Answers}

@@ -3,4 +3,5 @@ pub mod Events
 pub mod Machine
 pub mod Between
 pub mod Promise
+pub mod Claims
 pub mod Steps

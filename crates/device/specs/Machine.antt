@@ -35,7 +35,7 @@ pub record Stepped : Type 0 where
   pub machine : Machine
   pub reply : List ℕ
 
--- A FRESH DEVICE is idle, with nothing held, no open load, no records, a zero reception store and every version ten "0" bytes
+-- A FRESH DEVICE (scope paper, section Commands, its end): the line between packets, no response held, 2,048 zero bytes to receive in, and the tables of `freshCore`
 unfoldable pub fresh : Machine
 fresh = record { line = idle; store = replicate 2048 0; response = nothing; core = freshCore }
 
@@ -58,7 +58,7 @@ payloadOf m = take (m .line .count) (m .store)
 unfoldable pub goodPacket : Bool → List ℕ → ℕ → ℕ → Bool
 goodPacket spoiled p a b = not spoiled && (leb 1 (length p) && (eqb a (check p / 256) && eqb b (check p % 256)))
 
--- the command runs once; the reply is 06h and the response packet, which becomes the held one
+-- a good packet (section Reception): its payload is executed, once; 06h and the packet of its response go out, and that response is the one held from then on
 unfoldable pub runs : Machine → List ℕ → Stepped
 runs m p =
     record {
@@ -97,7 +97,7 @@ takes m b =
     (cond (isIdle (m .line .state) && eqb b 0x15) (again m (m .response))
     (hears m (taken (m .line) b .line) (taken (m .line) b .told)))
 
--- a restart: reception idle, held response forgotten, open load dropped; live tables and versions stay
+-- a restart (section Reception, its last event): what was being received, held or loaded is gone; what is live, and the versions' names, are not touched
 abbrev pub restarted : Machine → Machine
 restarted m = record { line = idle; store = m .store; response = nothing; core = withLoad (m .core) none }
 

@@ -49,7 +49,7 @@ struct Replied {
     written: usize,
 }
 
-// Idle, with nothing held, no open load, no records and no versions.
+// A fresh device: between packets, its tables empty, and no response to send again.
 fn fresh_device() -> Device
     ensures { λ r. ⌜ r ≡ stateOf fresh .device ⌝ }
 {

@@ -89,7 +89,7 @@ fn refuse(device: Device, out: &mut [u8]) -> Replied
     }
 }
 
-// A good packet: its command runs, and the reply is 06h and the response packet, which is held.
+// A good packet: its command is executed, 06h and the response's packet are written, and the response is held.
 fn run(device: Device, out: &mut [u8], live: &mut [u8], loading: &mut [u8]) -> Replied
     requires { ⌜ (64 ≤ length (now out)) × (device .count ≤ 2048) ⌝ }
     ensures { λ r. ⌜ Does (ran (stateAs device (now (live .entry)) (now (loading .entry)))) (now (out .entry)) r (now (out .exit)) (now (live .exit)) (now (loading .exit)) ⌝ }

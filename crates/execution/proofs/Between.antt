@@ -2,57 +2,23 @@
 use mathlib.Core.Path.{_≡_, refl, sym, ap, _∙_}
 use mathlib.Core.Bool.{Bool, true, false, not, _&&_, _||_, cond, false≢true}
 use mathlib.Core.List.{List, [], _∷_, flatten}
-use Prim.Native.Nat.{ℕ, _<_}
+use Prim.Native.Nat.{ℕ}
 use native.Mathlib.Omega.{arith}
 use lib.ListN.{length, take, length-replicate}
 use lib.Dec.{ltb, eqb}
 use borrow.Author.Tests.{ltb-true, lt-ltb, eqb-true, not-true}
-use Rattle.answer.specs.Pieces.{every}
 use Rattle.answer.proofs.Parts.{and-left, and-right}
 use Rattle.answer.proofs.Pieces.{pieces-flatten}
-use Rattle.records.specs.Record.{recordIn, recs, takes}
+use Rattle.records.specs.Record.{recordIn, recs}
 use Rattle.records.specs.Store.{zeros, storeOf, fits, allZero, soundStore}
-use Rattle.records.proofs.Records.{AllRecords, record-sizes}
+use Rattle.records.proofs.Records.{record-sizes}
 use Rattle.records.proofs.Stores.{sound-as, as-sound, fits-bytes, front-store, store-long, zeros-are, zeros-all}
 use Rattle.command.specs.Texts.{allText}
 use Rattle.execution.specs.declared.OpenLoad.{OpenLoad}
-use Rattle.execution.specs.Core.{Loading, Opening, Core}
+use Rattle.execution.specs.Core.{Opening, Core}
 use Rattle.execution.specs.Core.Opening.{none, some}
 use Rattle.execution.specs.Stored.{Stored, openingIn, coreOf, openLoadOf, loadingBytes, storedOf, answeredSound, openSound, closedSound, loadSound, liveSound, versionsSound, soundTables}
-
--- ---- what can be
-
--- what the arrays' types and the stores' sizes give
-pub record Sized (s : Stored) : Type 0 where
-  pub versions-long : length (s .tables .versions) ≡ 1000
-  pub version-long : length (s .tables .load .version) ≡ 10
-  pub live-long : length (s .live) ≡ 32768
-  pub loading-long : length (s .loading) ≡ 32768
-
--- records that a load for the network takes, within the limits
-pub record Fine (network : ℕ) (rs : List (List ℕ)) : Type 0 where
-  pub all : AllRecords rs
-  pub taken-all : every (takes network) rs ≡ true
-  pub fit : fits 32768 rs ≡ true
-
--- an open load that can be
-pub record LegalLoading (l : Loading) : Type 0 where
-  pub network-low : l .network < 100
-  pub version-long : length (l .version) ≡ 10
-  pub version-text : allText (l .version) ≡ true
-  pub kept-fine : Fine (l .network) (l .kept .records)
-  pub answered : l .any ≡ false → (l .kept .over ≡ false) × (l .kept .records ≡ [])
-
-abbrev pub LegalOpening : Opening → Type 0
-LegalOpening none = Unit {0}
-LegalOpening (some l) = LegalLoading l
-
--- a core that can be
-pub record LegalCore (c : Core) : Type 0 where
-  pub live-fine : Fine 0 (c .records)
-  pub versions-long : length (c .versions) ≡ 1000
-  pub versions-text : allText (c .versions) ≡ true
-  pub load-legal : LegalOpening (c .load)
+use Rattle.execution.specs.Claims.{Sized, Fine, LegalOpening, LegalCore}
 
 -- ---- one store
 

@@ -10,7 +10,7 @@ use Rattle.records.specs.Store.{zeros}
 use Rattle.tables.specs.declared.Load.{Load}
 use Rattle.tables.specs.declared.Closed.{Closed}
 use Rattle.tables.specs.Loading.{Adds}
-use Rattle.tables.specs.Closing.{Closes, newVersion, newVersions}
+use Rattle.tables.specs.Closing.{Closes, newVersion, newVersions, versionOf}
 use Rattle.command.specs.declared.Command.{Command}
 use Rattle.command.specs.declared.Command.the-variants.{Tlr}
 use Rattle.command.specs.Texts.{ascii, starts, allText}
@@ -18,7 +18,7 @@ use Rattle.command.specs.Command.{commandOf}
 use Rattle.execution.specs.declared.OpenLoad.{OpenLoad}
 use Rattle.execution.specs.declared.Tables.{Tables}
 use Rattle.execution.specs.declared.Executed.{Executed}
-use Rattle.execution.specs.CommandTable.{versionIn, versionOf, blockIn, same, responseTo}
+use Rattle.execution.specs.CommandTable.{versionIn, blockIn, same, responseTo}
 use Rattle.execution.specs.Responses.{oneOf, sixBytes, givesVersion}
 use Rattle.execution.specs.Stored.{Stored, storedAs, noLoad}
 use Rattle.execution.specs.Promise.{tablesWith, newLoad, grown, stockedIn, fedIn, acceptedIn, replacedIn, droppedIn, endedIn, executedAs, executed, responded, responseWith, Executes}

@@ -12,8 +12,9 @@ use Rattle.records.specs.Record.{recs, goodBlock, recordsOf}
 use Rattle.records.specs.Store.{zeros, storeOf, fits, soundStore}
 use Rattle.records.proofs.Stores.{sound-as, used-part, fits-both, store-none}
 use Rattle.tables.specs.Loading.{taken, Kept, Stocked, stockAll}
-use Rattle.tables.specs.Closing.{notNamed, newSet, newBytes, newRecords, newVersion, newVersions}
-use Rattle.tables.proofs.Loads.{Holds, holds-all}
+use Rattle.tables.specs.Closing.{notNamed, newSet, newBytes, newRecords, newVersion, newVersions, versionOf}
+use Rattle.tables.specs.Claims.{Holds}
+use Rattle.tables.proofs.Loads.{holds-all}
 use Rattle.tables.proofs.NewSets.{closes-is}
 use Rattle.command.specs.declared.Command.{Command}
 use Rattle.command.specs.declared.Command.the-variants.{Opn, Gts, GtsWrong, Tli, TliWrong, Tlr, TlrWrong, Tle, Unknown}
@@ -22,12 +23,13 @@ use Rattle.command.specs.Command.{commandOf}
 use Rattle.execution.specs.declared.OpenLoad.{OpenLoad}
 use Rattle.execution.specs.Core.{Opening, withLoad, freshCore}
 use Rattle.execution.specs.Core.Opening.{none, some}
-use Rattle.execution.specs.CommandTable.{versionIn, blockIn, versionOf, same, responseTo}
+use Rattle.execution.specs.CommandTable.{versionIn, blockIn, same, responseTo}
 use Rattle.execution.specs.Execute.{openedFor, fed, accepts, ended, executeAs, execute, isOpen, responseOf}
 use Rattle.execution.specs.Stored.{Stored, keptIn, openingIn, coreOf, noLoad, openLoadOf, loadingBytes, storedOf, openSound, answeredSound, soundTables}
 use Rattle.execution.specs.Promise.{tablesWith, newLoad, openedIn, grown, fedIn, acceptedIn, newBytesIn, replacedIn, droppedIn, endedIn, executedAs, executed, responded}
+use Rattle.execution.specs.Claims.{Sized, LegalCore}
 use Rattle.execution.proofs.Asked.{tlr-block, taken-is}
-use Rattle.execution.proofs.Between.{Sized, LegalCore, store-is, live-good, load-good, load-there, stored-back}
+use Rattle.execution.proofs.Between.{store-is, live-good, load-good, load-there, stored-back}
 
 -- ---- a load in the place of another
 

@@ -12,7 +12,7 @@ use Rattle.answer.specs.Digits.{isText}
 use Rattle.answer.specs.Laid.{pasted}
 use Rattle.answer.proofs.Parts.{and-left, and-right}
 use Rattle.records.specs.Record.{goodBlock}
-use Rattle.tables.specs.Closing.{newSet, noVersion, newVersion, newVersions}
+use Rattle.tables.specs.Closing.{newSet, noVersion, newVersion, newVersions, versionOf}
 use Rattle.tables.proofs.Versions.{many}
 use Rattle.tables.proofs.Networks.{versions-long}
 use Rattle.command.specs.declared.Command.{Command}
@@ -21,11 +21,11 @@ use Rattle.command.specs.Texts.{ascii, starts, allText}
 use Rattle.command.specs.Command.{commandOf}
 use Rattle.execution.specs.Core.{Opening, Core, withLoad}
 use Rattle.execution.specs.Core.Opening.{none, some}
-use Rattle.execution.specs.CommandTable.{versionIn, blockIn, versionOf, same, responseTo}
+use Rattle.execution.specs.CommandTable.{versionIn, blockIn, same, responseTo}
 use Rattle.execution.specs.Execute.{openedFor, fed, accepts, ended, executeAs, execute, isOpen, responseOf}
 use Rattle.execution.specs.Responses.{oneOf, sixBytes, givesVersion, isResponse}
+use Rattle.execution.specs.Claims.{LegalOpening, LegalCore}
 use Rattle.execution.proofs.Asked.{gts-network, tli-network, tli-long, tli-text, tlr-block}
-use Rattle.execution.proofs.Between.{LegalOpening, LegalCore}
 use Rattle.execution.proofs.Executing.{text-zeros}
 use Rattle.execution.proofs.Sets.{none-fine, keep-fine, new-fine}
 

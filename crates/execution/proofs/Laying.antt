@@ -11,10 +11,11 @@ use Rattle.answer.specs.Laid.{PutIf, pasted}
 use Rattle.answer.proofs.Laid.{put-fits, pasted-start, over-more, over-long}
 use Rattle.answer.proofs.Parts.{piece-part}
 use Rattle.records.specs.Store.{zeros}
+use Rattle.tables.specs.Closing.{versionOf}
 use Rattle.command.specs.Texts.{ascii}
 use Rattle.execution.specs.declared.Tables.{Tables}
 use Rattle.execution.specs.declared.Executed.{Executed}
-use Rattle.execution.specs.CommandTable.{versionIn, versionOf}
+use Rattle.execution.specs.CommandTable.{versionIn}
 use Rattle.execution.specs.Steps.{executedOf}
 
 zeros-long : (n : ℕ) → length (zeros n) ≡ n

@@ -9,7 +9,7 @@ use Rattle.answer.specs.Pieces.{every}
 use Rattle.answer.proofs.Parts.{and-right}
 use Rattle.records.specs.Record.{recs, takes, goodBlock, recordsOf}
 use Rattle.records.specs.Store.{zeros, storeOf, fits}
-use Rattle.records.proofs.Records.{AllRecords}
+use Rattle.records.specs.Claims.{AllRecords}
 use Rattle.records.proofs.Stores.{fits-both}
 use Rattle.tables.specs.declared.Closed.{Closed}
 use Rattle.tables.specs.Loading.{taken, takenOf, Kept, keepAll, Stocked, stockAll, Adds}
@@ -20,8 +20,9 @@ use Rattle.execution.specs.Core.{Loading, Core}
 use Rattle.execution.specs.Core.Opening.{some}
 use Rattle.execution.specs.Execute.{accepts}
 use Rattle.execution.specs.Stored.{extentOf, loadOf}
+use Rattle.execution.specs.Claims.{Fine}
 use Rattle.execution.proofs.Asked.{taken-is}
-use Rattle.execution.proofs.Between.{Fine, fine-long, fine-back, fine-sound}
+use Rattle.execution.proofs.Between.{fine-long, fine-back, fine-sound}
 
 -- ---- what a load keeps
 

@@ -1,9 +1,10 @@
 -- The command table: what a payload holds beside its command, and the responses (scope paper, section Commands). Nothing here knows of a device.
-use Prim.Native.Nat.{ℕ, _*_}
+use Prim.Native.Nat.{ℕ}
 use mathlib.Core.Bool.{Bool, _&&_, cond}
 use mathlib.Core.List.{List, _++_}
 use lib.ListN.{length, take, drop}
 use lib.Dec.{eqb}
+use Rattle.tables.specs.Closing.{versionOf}
 use Rattle.command.specs.declared.Command.{Command}
 use Rattle.command.specs.declared.Command.the-variants.{Opn, Gts, GtsWrong, Tli, TliWrong, Tlr, TlrWrong, Tle, Unknown}
 use Rattle.command.specs.Texts.{ascii, starts}
@@ -17,10 +18,6 @@ versionIn p = take 10 (drop 8 p)
 -- TLR's block: all after the name and the length
 abbrev pub blockIn : List ℕ → List ℕ
 blockIn p = drop 6 p
-
--- the version that is held for a network
-abbrev pub versionOf : ℕ → List ℕ → List ℕ
-versionOf n versions = take 10 (drop (n * 10) versions)
 
 -- ---- the responses
 

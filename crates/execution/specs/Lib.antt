@@ -5,4 +5,5 @@ pub mod Execute
 pub mod Responses
 pub mod Stored
 pub mod Promise
+pub mod Claims
 pub mod Steps

@@ -60,7 +60,7 @@ abbrev pub openLoadOf : Opening → OpenLoad
 openLoadOf none = noLoad
 openLoadOf (some l) = record { opened = true; network = l .network; version = l .version; kept = loadOf (l .kept); any = l .any }
 
--- with no load open the loading store is all zero
+-- while no load is open every byte of the loading store is 0
 abbrev pub loadingBytes : Opening → List ℕ
 loadingBytes none = zeros 32768
 loadingBytes (some l) = storeOf 32768 (l .kept .records)
@@ -83,7 +83,7 @@ liveSound s = soundStore 0 (s .tables .live .used) (s .tables .live .records) (s
 abbrev pub versionsSound : Stored → Bool
 versionsSound s = allText (s .tables .versions)
 
--- a load with records or marked over has had a TLR answered 000
+-- only a TLR answered 000 can have brought a record into the load or marked it over
 abbrev pub answeredSound : OpenLoad → Bool
 answeredSound l = l .any || (not (l .kept .over) && eqb (l .kept .records) 0)
 

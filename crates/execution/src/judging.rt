@@ -86,7 +86,7 @@ fn gives_version(p: &[u8]) -> bool
     command::starts_with(p, b"GTS000010") & all_text(&p[9..])
 }
 
-// Whether `p` is a payload that the command table or ERR010 gives.
+// Whether `p` is a response that some command gets, ERR010 among them.
 pub fn is_response(p: &[u8]) -> bool
     ensures { λ r. ⌜ r ≡ isResponse (now (p .entry)) ⌝ }
 {

@@ -7,8 +7,9 @@ ghost use mathlib.Core.List.{_++_};
 ghost use mathlib.Core.Bool.{cond};
 ghost use Prim.Native.Nat.{_≤_, _<_};
 ghost use lib.ListN.{length};
+ghost use Rattle.tables.specs.Closing.{versionOf};
 ghost use Rattle.command.specs.Texts.{ascii};
-ghost use Rattle.execution.specs.CommandTable.{versionOf, same};
+ghost use Rattle.execution.specs.CommandTable.{same};
 ghost use Rattle.execution.specs.Steps.{executedOf};
 
 // Whether two texts are equal.

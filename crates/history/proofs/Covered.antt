@@ -4,41 +4,27 @@ use mathlib.Core.Bool.{Bool, true, false, cond}
 use mathlib.Core.List.{List, [], _∷_}
 use Prim.Native.Nat.{ℕ, _≤_}
 use native.Mathlib.Omega.{arith}
-use lib.ListN.{length, take, drop, replicate, length-replicate}
+use lib.ListN.{length, drop, replicate, length-replicate}
 use Rattle.answer.specs.Answers.{over}
 use Rattle.state.specs.State.{State}
-use Rattle.device.specs.declared.Received.{Received}
 use Rattle.device.specs.Events.{Event}
 use Rattle.device.specs.Events.Event.{byte, timeout, restart}
 use Rattle.device.specs.Machine.{Machine, Called, fresh, step, isNone, call}
 use Rattle.device.specs.Between.{stateOf}
-use Rattle.device.specs.Promise.{Left, afterPiece, afterEvent, unless, Gives, Answers}
-use Rattle.device.proofs.Back.{Legal, machine-back}
+use Rattle.device.specs.Promise.{Left, afterPiece, afterEvent, unless, Gives}
+use Rattle.device.specs.Claims.{Legal}
+use Rattle.device.proofs.Back.{machine-back}
 use Rattle.history.specs.Calls.{bytesThen, Calls}
 use Rattle.history.specs.Calls.Calls.{done, received, timedOut, restarts}
 use Rattle.history.specs.Reading.{run}
+use Rattle.history.specs.Claims.{Covered, answerFor, Allows, pieceLeft, eventLeft}
 use Rattle.history.proofs.LegalRuns.{fresh-legal, step-legal, run-legal, accepted}
-use Rattle.history.proofs.Cutting.{call-run}
 use Rattle.history.proofs.Handed.{handed}
-
--- calls that hand over all of a history: the state that they leave, and what they wrote, joined
-pub record Covered (x : State) (h : List Event) : Type 0 where
-  pub last : State
-  pub said : List ℕ
-  pub calls : Calls x h [] last said
 
 covers : {x : State} {h : List Event} {y : State} {said : List ℕ} → Calls x h [] y said → Covered x h
 covers {x} {h} {y} {said} c = record { last = y; said = said; calls = c }
 
 -- ---- one call has an answer
-
--- the answer of a call that is not refused
-abbrev pub answerFor : Left → Received
-answerFor left = record { device = left .state .device; refusal = 0; taken = left .taken; written = length (left .reply) }
-
--- of a call that would leave `left`, the promise allows that answer, with l left and its reply laid over `out`
-abbrev pub Allows : State → Left → Left → List ℕ → Type 0
-Allows x left l out = Answers x left out (answerFor l) (over (l .reply) out) (l .state .live) (l .state .loading)
 
 -- it does so on a legal machine's state, where there is room for 64 bytes
 allowed : (m : Machine) → Legal m → (left l : Left) → left ≡ l → (out : List ℕ) → 64 ≤ length out → Allows (stateOf m) left l out
@@ -46,13 +32,6 @@ allowed m g left l e out k =
     let G : ℕ → Left → Type 0 = λ n q. Gives n q out (answerFor l) (over (l .reply) out) (l .state .live) (l .state .loading) in
     let t : G 0 l = record { result = refl; said = refl; live-is = refl; loading-is = refl } in
     subst (λ (n : ℕ). G n (unless n (stateOf m) left)) (sym (accepted m g (length out) k)) (subst (G 0) (sym e) t)
-
--- what the machine's call leaves of a piece, and what its step leaves of a timeout or a restart
-abbrev pub pieceLeft : Machine → List ℕ → Left
-pieceLeft m piece = record { state = stateOf (call m piece .machine); taken = call m piece .taken; reply = call m piece .reply }
-
-abbrev pub eventLeft : Machine → Event → Left
-eventLeft m e = record { state = stateOf (step m e .machine); taken = 0; reply = step m e .reply }
 
 -- ANY PIECE, in any `out` of 64 bytes or more: the promise allows the answer 0 with the machine's call
 pub piece-allowed : (m : Machine) → Legal m → (piece out : List ℕ) → 64 ≤ length out → Allows (stateOf m) (afterPiece piece (stateOf m)) (pieceLeft m piece) out

@@ -1,34 +1,30 @@
 -- DEMAND 3: what calls in any cut come to, from the start of a device, worked out from the history alone.
-use mathlib.Core.Path.{_≡_, refl, sym, ap, subst, _∙_}
-use mathlib.Core.List.{List, [], _++_}
+use mathlib.Core.Path.{_≡_, refl, ap, subst, _∙_}
+use mathlib.Core.List.{List, []}
 use Prim.Native.Nat.{ℕ, _≤_}
-use lib.ListN.{length, replicate, length-replicate}
+use lib.ListN.{replicate, length-replicate}
 use Rattle.records.specs.Store.{storeOf}
-use Rattle.tables.specs.declared.Extent.{Extent}
-use Rattle.reception.specs.Reception.{idle}
 use Rattle.execution.specs.Core.{Core, freshCore}
-use Rattle.execution.specs.Stored.{Stored, extentOf, coreOf, storedOf}
+use Rattle.execution.specs.Stored.{extentOf, coreOf, storedOf}
 use Rattle.execution.proofs.Between.{core-back}
 use Rattle.state.specs.State.{State, stateAs, storedIn}
 use Rattle.state.specs.Sound.{refusalOf}
 use Rattle.device.specs.declared.Started.{Started}
 use Rattle.device.specs.Events.{Event}
-use Rattle.device.specs.Machine.{Machine, fresh}
+use Rattle.device.specs.Machine.{fresh}
 use Rattle.device.specs.Between.{stateOf}
 use Rattle.device.specs.Promise.{Starts}
-use Rattle.device.proofs.Back.{Legal}
-use Rattle.history.specs.Ran.{Ran, ranIn, seenOf, ranOf}
-use Rattle.history.specs.Loads.{loadsOf}
-use Rattle.history.specs.Tables.{Tables, tablesOf}
+use Rattle.history.specs.Ran.{seenOf, ranOf}
 use Rattle.history.specs.Replies.{repliesOf}
 use Rattle.history.specs.Reading.{readFrom, run}
 use Rattle.history.specs.Calls.{Calls}
+use Rattle.history.specs.Claims.{performAll, Comes, DemandThree}
 use Rattle.history.proofs.ByEye.{seen-by-eye}
-use Rattle.history.proofs.Performing.{Doing, doingOf, performAll, saysAll, doesAll, run-says, run-does, core-ran}
+use Rattle.history.proofs.Performing.{Doing, doingOf, saysAll, doesAll, run-says, run-does, core-ran}
 use Rattle.history.proofs.TablesHold.{tables-hold}
 use Rattle.history.proofs.RepliesHold.{replies-hold}
 use Rattle.history.proofs.LegalRuns.{fresh-legal, run-legal}
-use Rattle.history.proofs.Handed.{Handed, handed}
+use Rattle.history.proofs.Handed.{handed}
 use Rattle.history.proofs.Theorems.{started-fresh, cut, never-refused}
 
 -- ---- the run of a fresh machine
@@ -49,26 +45,6 @@ unfolding fresh
 run-core h = ap (λ (d : Doing). d .core) (run-does fresh h ∙ ap (doesAll (doingOf fresh)) (fresh-reads h)) ∙ core-ran (doingOf fresh) (seenOf h)
 
 -- ---- DEMAND 3
-
--- what is so once the events `prefix` of a history were handed over
-pub record Comes (prefix : List Event) (y : State) (said : List ℕ) : Type 0 where
-  -- the joined replies
-  pub replies : said ≡ repliesOf prefix
-  -- every byte of the live store, and its extent: the records that the finished loads give, and zeros
-  pub live-is : y .live ≡ storeOf 32768 (tablesOf (loadsOf (ranOf prefix)) .records)
-  pub extent-is : y .device .tables .live ≡ extentOf (tablesOf (loadsOf (ranOf prefix)) .records)
-  -- every byte of the version store
-  pub versions-are : y .device .tables .versions ≡ tablesOf (loadsOf (ranOf prefix)) .versions
-  -- ONCE: tables, versions and open load are what the payloads that run make of them, in order and each once
-  pub executed-are : coreOf (storedIn y) ≡ performAll freshCore (ranOf prefix)
-  -- NEVER REFUSED: the next call with room of 64 is not
-  pub accepts : (room : ℕ) → 64 ≤ room → refusalOf room y ≡ 0
-
-pub record DemandThree (h rest : List Event) (y : State) (said : List ℕ) : Type 0 where
-  -- what was handed over so far, and what is left of the history
-  pub prefix : List Event
-  pub splits : h ≡ prefix ++ rest
-  pub comes : Comes prefix y said
 
 comes-run : (h : List Event) (y : State) → y ≡ stateOf (run fresh h .machine) → (said : List ℕ) → said ≡ run fresh h .reply → ((room : ℕ) → 64 ≤ room → refusalOf room y ≡ 0) → Comes h y said
 unfolding stateOf storedOf

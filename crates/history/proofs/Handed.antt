@@ -13,7 +13,8 @@ use Rattle.device.specs.Events.Event.{timeout, restart}
 use Rattle.device.specs.Machine.{Machine, Stepped, step, call}
 use Rattle.device.specs.Between.{machineOf, stateOf}
 use Rattle.device.specs.Promise.{Left, afterPiece, afterEvent, unless, Gives}
-use Rattle.device.proofs.Back.{Legal, machine-back}
+use Rattle.device.specs.Claims.{Legal}
+use Rattle.device.proofs.Back.{machine-back}
 use Rattle.history.specs.Calls.{bytesThen, stillThere, Calls}
 use Rattle.history.specs.Calls.Calls.{done, received, timedOut, restarts, refusedOn}
 use Rattle.history.specs.Reading.{run}

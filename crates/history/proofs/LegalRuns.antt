@@ -24,7 +24,8 @@ use Rattle.device.specs.Events.Event.{byte, timeout, restart}
 use Rattle.device.specs.Machine.{Holding, Machine, Stepped, fresh, on, holds, silent, payloadOf, goodPacket, runs, refuses, completes, hears, cancels, again, takes, restarted, step}
 use Rattle.device.specs.Machine.Holding.{nothing, holding}
 use Rattle.device.specs.Between.{stateOf}
-use Rattle.device.proofs.Back.{LegalLine, LegalHolding, Legal, legal-size, legal-good}
+use Rattle.device.specs.Claims.{LegalLine, LegalHolding, Legal}
+use Rattle.device.proofs.Back.{legal-size, legal-good}
 use Rattle.history.specs.Reading.{run}
 
 -- ---- reception

@@ -25,21 +25,10 @@ use Rattle.device.specs.Machine.Holding.{nothing, holding}
 use Rattle.gathering.specs.Gathering.{placedIn}
 use Rattle.history.specs.Text.{Item}
 use Rattle.history.specs.Text.Item.{good, bad, can, nak}
-use Rattle.history.specs.Ran.{Seen, items, Ran, ranIn}
+use Rattle.history.specs.Ran.{Seen, items, ranIn}
 use Rattle.history.specs.Ran.Seen.{item, restarted}
-use Rattle.history.specs.Ran.Ran.{payload, restarted as ranRestart}
 use Rattle.history.specs.Reading.{heardItem, toldItems, itemsAt, readFrom, run}
-
--- ---- what runs, and what it makes of the core
-
--- a payload is executed; a restart drops the open load
-unfoldable pub perform : Core → Ran → Core
-perform c (payload p) = execute c p
-perform c ranRestart = withLoad c none
-
-unfoldable pub performAll : Core → List Ran → Core
-performAll c [] = c
-performAll c (r ∷ rs) = performAll (perform c r) rs
+use Rattle.history.specs.Claims.{perform, performAll}
 
 -- ---- what is seen, and what it makes of the held response and the core
 

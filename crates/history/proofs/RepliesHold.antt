@@ -16,7 +16,8 @@ use Rattle.history.specs.Ran.Seen.{item, restarted}
 use Rattle.history.specs.Ran.Ran.{payload, restarted as ranRestart}
 use Rattle.history.specs.Replies.{responseAfter, Held, againSaid, againHeld, repliesFrom}
 use Rattle.history.specs.Replies.Held.{nothing as heldNothing, held}
-use Rattle.history.proofs.Performing.{perform, performAll, Doing, heldAgain, saidAgain, does, saysAt, saysAll}
+use Rattle.history.specs.Claims.{perform, performAll}
+use Rattle.history.proofs.Performing.{Doing, heldAgain, saidAgain, does, saysAt, saysAll}
 use Rattle.history.proofs.TablesHold.{response-hold}
 
 -- ---- what is held, as a device holds it and as a history gives it

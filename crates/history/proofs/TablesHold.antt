@@ -25,7 +25,7 @@ use Rattle.history.specs.Loads.{Load, Open, withBlock, openBy, closing, 
 use Rattle.history.specs.Loads.Open.{noLoad, load}
 use Rattle.history.specs.Tables.{Tables, freshTables, within, loaded, tablesFrom, tablesOf, wouldClose}
 use Rattle.history.specs.Replies.{isOpen, responseAfter}
-use Rattle.history.proofs.Performing.{perform, performAll}
+use Rattle.history.specs.Claims.{perform, performAll}
 
 -- ---- the limits
 

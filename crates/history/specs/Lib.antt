@@ -6,4 +6,5 @@ pub mod Tables
 pub mod Replies
 pub mod Calls
 pub mod Reading
+pub mod Claims
 pub mod Samples

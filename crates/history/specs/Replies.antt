@@ -1,4 +1,4 @@
--- The joined replies of a history (scope paper, sections Reception and Commands). Nothing here knows of a device.
+-- The joined replies of a history (scope paper, sections Reception and Commands). Of the device it knows the events alone.
 use Prim.Native.Nat.{ℕ, _+_}
 use mathlib.Core.Bool.{Bool, true, false, cond}
 use mathlib.Core.List.{List, [], _∷_, _++_}
@@ -30,7 +30,7 @@ pub data Held : Type 0 where
   nothing : Held
   held : List ℕ → ℕ → Held
 
--- NAK sends the held response packet again, without 06h and at most 3 times
+-- what NAK brings: the packet of the held response by itself, as long as it was sent again fewer than 3 times
 abbrev pub againSaid : Held → List ℕ
 againSaid nothing = []
 againSaid (held p n) = cond (ltb n 3) (packetOf p) []

@@ -10,9 +10,10 @@ use lib.Dec.{leb}
 use borrow.Author.Tests.{le-leb, lt-leb, leb-true}
 use Rattle.answer.specs.Pieces.{pieces, rest, isNone, whole, every}
 use Rattle.answer.specs.Laid.{PieceAt}
-use Rattle.answer.proofs.Pieces.{Sizes, AllPieces, none-true, piece-more, piece-none, flatten-pieces, pieces-flatten, rest-flatten, all-pieces}
+use Rattle.answer.proofs.Pieces.{Sizes, none-true, piece-more, piece-none, flatten-pieces, pieces-flatten, rest-flatten, all-pieces}
 use Rattle.parameters.specs.Parameters.{wholeList}
 use Rattle.answer.specs.Digits.{isDigit, threeAt}
+use Rattle.answer.specs.Claims.{AllPieces}
 use Rattle.message.specs.Blocks.{isLength, blockIn, blocksOf, threeOf, blockOf}
 use Rattle.answer.proofs.Parts.{and-left, and-right, inner-part}
 

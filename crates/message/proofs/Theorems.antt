@@ -99,7 +99,7 @@ list-back head response list m e =
     (ap (every wholeList) bs ∙ fill-lists list)
     ∙ ap Good (ap flatten bs ∙ flatten-fill list (w .good) (w .fit))
 
--- MESSAGE TO LIST TO MESSAGE, where the blocks were filled that way
+-- READ, THEN WRITTEN: a message whose blocks are greedy is the one that its list is written as
 pub message-back : (response : Bool) (m list : List ℕ) → readMessage response m ≡ Good list → greedy (blocksOf (bodyOf response m)) ≡ true
     → writeMessage (headOf response m) response list ≡ Good m
 unfolding messageOf

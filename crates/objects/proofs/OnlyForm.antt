@@ -9,12 +9,8 @@ use lib.Dec.{ltb, eqb}
 use borrow.Author.Tests.{ltb-true, ltb-false, eqb-true}
 use Rattle.objects.specs.declared.Form.{Form}
 use Rattle.objects.specs.LengthForm.{form, noForm, formOf, formAt, after81, after82}
+use Rattle.objects.specs.Claims.{AllBytes}
 use Rattle.objects.proofs.LengthForms.{form-one, form-two, form-three}
-
--- a list of bytes
-abbrev pub AllBytes : List ℕ → Type 0
-AllBytes [] = Unit {0}
-AllBytes (x ∷ xs) = (x < 256) × AllBytes xs
 
 -- what is known of each element of a lent slice
 pub bytes-known : (xs : List ℕ) → ((i : ℕ) → getD xs i 0 < 256) → AllBytes xs

@@ -16,10 +16,10 @@ use Rattle.objects.specs.declared.ObjectRead.{ObjectRead}
 use Rattle.objects.specs.Tag.{tagSize, isTag}
 use Rattle.objects.specs.LengthForm.{formOf}
 use Rattle.objects.specs.Object.{objectOf, writeObject, headerSize, valueSize, objectRefusal, objectSize, readOf}
+use Rattle.objects.specs.Claims.{AllBytes, Fit}
 use Rattle.objects.proofs.Objects.{read-good, size-good, size-le}
 use Rattle.objects.proofs.Reading.{read-refusal}
-use Rattle.objects.proofs.OnlyForm.{AllBytes}
-use Rattle.objects.proofs.RoundTrip.{Fit, write-gives, fit-writes, written-read, read-written, read-fit}
+use Rattle.objects.proofs.RoundTrip.{write-gives, fit-writes, written-read, read-written, read-fit}
 
 -- ---- ONE RESULT: two results of a call that its promise allows for one entry are one
 

@@ -16,18 +16,13 @@ use Rattle.objects.specs.declared.ObjectRead.{ObjectRead}
 use Rattle.objects.specs.Tag.{tagSize, isTag}
 use Rattle.objects.specs.LengthForm.{form, formOf, formAt}
 use Rattle.objects.specs.Object.{objectOf, writeObject, headerSize, valueSize, objectRefusal, objectSize, readOf, objectIn}
+use Rattle.objects.specs.Claims.{AllBytes, Fit}
 use Rattle.answer.proofs.Parts.{and-left, and-right}
 use Rattle.objects.proofs.TagSizes.{tag-append, tag-take, tag-le}
 use Rattle.objects.proofs.LengthForms.{form-read, form-some}
 use Rattle.objects.proofs.Objects.{Sound, sound-parts, sound-refusal, read-good, size-good, object-length, object-in}
 use Rattle.objects.proofs.Writing.{write-good}
-use Rattle.objects.proofs.OnlyForm.{AllBytes, bytes-drop, form-only}
-
--- what the writer demands: exactly one tag, and a value that is not too long
-pub record Fit (tag value : List ℕ) : Type 0 where
-  pub tag-is : tagSize tag ≡ length tag
-  pub some : tagSize tag ≡ 0 → ⊥
-  pub small : length value ≤ 65535
+use Rattle.objects.proofs.OnlyForm.{bytes-drop, form-only}
 
 pub tag-fit : (tag : List ℕ) → isTag tag ≡ true → (tagSize tag ≡ length tag) × (tagSize tag ≡ 0 → ⊥)
 tag-fit tag e =

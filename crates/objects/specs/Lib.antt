@@ -2,4 +2,5 @@
 pub mod Tag
 pub mod LengthForm
 pub mod Object
+pub mod Claims
 pub mod Steps

@@ -1,21 +1,22 @@
 -- What holds of packets: reading accepts exactly the packets, and gives back what was sent.
 use mathlib.Core.Path.{_≡_, refl, sym, ap, ap₂, _∙_, subst}
-use mathlib.Core.Bool.{Bool, true, false, _&&_, _||_, cond, false≢true}
-use mathlib.Core.List.{List, [], _∷_, _++_, append-assoc, append-nil}
-use Prim.Native.Nat.{ℕ, zero, suc, _+_, _-_, _/_, _%_, _≤_, _<_}
+use mathlib.Core.Bool.{Bool, true, false, _&&_, _||_, cond}
+use mathlib.Core.List.{List, [], _∷_, _++_, append-assoc}
+use Prim.Native.Nat.{ℕ, zero, suc, _+_, _/_, _%_, _≤_}
 use native.Mathlib.Omega.{arith}
 use native.Mathlib.Numerals.{add-one}
-use lib.ListN.{length, getD, take, drop, length-append}
-use lib.Seq.{take-at, drop-append-add, take-append-seam, drop-append-seam}
+use lib.ListN.{length, take, drop, length-append}
+use lib.Seq.{drop-append-add, take-append-seam}
 use lib.Dec.{eqb, ltb}
 use borrow.Author.Tests.{eq-eqb, ne-eqb, le-ltb, ltb-false, eqb-true, eqb-false}
 use Rattle.crc16.specs.Crc.{check}
 use Rattle.answer.specs.declared.Answer.{Answer}
-use Rattle.answer.specs.Answers.{Result, Gives, within, answerOf, bytesOf, over}
+use Rattle.answer.specs.Answers.{Result, Gives, answerOf, over}
 use Rattle.answer.specs.Answers.Result.{Good, Refused}
 use Rattle.packet.specs.Substitution.{sent, stuff, Unstuffed, andThen, pairThen, plainThen, unstuff}
 use Rattle.packet.specs.Packet.{ending, packetOf, sized, writePacket, before, checked, judged, closed, restOf, readPacket}
 use Rattle.packet.specs.Substitution.Unstuffed.{clean, spoiled}
+use Rattle.packet.specs.Claims.{IsPacket}
 use Rattle.answer.proofs.Promises.{Gives-one, same-good, not-good, Numbered, success}
 use Rattle.packet.proofs.Judging.{write-good}
 
@@ -181,9 +182,6 @@ checked-good p q a b = cases (eqb a (check p / 256)) (eqb b (check p % 256)) ref
     cases true true f g e = (same-good e, ap₂ (λ (m n : ℕ). 0x17 ∷ m ∷ n ∷ []) (eqb-true a (check p / 256) f) (eqb-true b (check p % 256) g))
     cases true false f g e = absurd (not-good e)
     cases false y f g e = absurd (not-good e)
-
-abbrev IsPacket : List ℕ → List ℕ → Type 0
-IsPacket b p = (b ≡ packetOf p) × (1 ≤ length p) × (length p ≤ 2048)
 
 judged-good : (u : Unstuffed) (body p : List ℕ) (a b : ℕ) → unstuff body ≡ u → judged u a b ≡ Good p → IsPacket (0x16 ∷ (body ++ (0x17 ∷ a ∷ b ∷ []))) p
 unfolding packetOf

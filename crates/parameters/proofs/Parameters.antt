@@ -10,7 +10,8 @@ use lib.Dec.{leb}
 use borrow.Author.Tests.{le-leb, lt-leb, leb-true}
 use Rattle.answer.specs.Pieces.{rest, restFrom, isNone, every}
 use Rattle.answer.specs.Laid.{PieceAt}
-use Rattle.answer.proofs.Pieces.{Sizes, AllPieces, none-true, within, flatten-pieces, pieces-flatten, rest-flatten, all-pieces, whole-stop}
+use Rattle.answer.specs.Claims.{AllPieces}
+use Rattle.answer.proofs.Pieces.{Sizes, none-true, within, flatten-pieces, pieces-flatten, rest-flatten, all-pieces, whole-stop}
 use Rattle.parameters.specs.Parameters.{twoAt, parameterIn, parameters, wholeList}
 use Rattle.answer.proofs.Parts.{and-left, and-right, flatten-append}
 

@@ -1,37 +1,27 @@
 -- Lists of objects and tag lists: written and then read they are the same list, read and then written the same bytes.
 use mathlib.Core.Path.{_≡_, refl, sym, ap, _∙_, subst}
-use mathlib.Core.Bool.{true}
 use mathlib.Core.List.{List, [], _∷_, _++_, map, flatten, append-nil}
 use Prim.Native.Nat.{ℕ}
 use native.Mathlib.Omega.{arith}
 use lib.ListN.{length, take, drop}
 use lib.Seq.{take-all}
 use borrow.Author.Tests.{eq-eqb, ne-eqb}
-use Rattle.answer.specs.Answers.Result.{Good}
 use Rattle.answer.specs.Pieces.{pieces, rest}
-use Rattle.answer.proofs.Pieces.{AllPieces, flatten-pieces, pieces-flatten, rest-flatten, all-pieces}
-use Rattle.objects.specs.Tag.{tagSize, isTag}
-use Rattle.objects.specs.Object.{Object, objectOf, writeObject, headerSize, valueSize, objectRefusal, objectSize, objectIn}
+use Rattle.answer.specs.Claims.{AllPieces}
+use Rattle.answer.proofs.Pieces.{flatten-pieces, pieces-flatten, rest-flatten, all-pieces}
+use Rattle.objects.specs.Tag.{tagSize}
+use Rattle.objects.specs.Object.{Object, objectOf, headerSize, valueSize, objectRefusal, objectSize, objectIn}
+use Rattle.objects.specs.Claims.{AllBytes, Fit}
 use Rattle.objects.proofs.TagSizes.{tag-le}
 use Rattle.objects.proofs.LengthForms.{form-some}
 use Rattle.objects.proofs.Objects.{size-le, size-refusal, object-length, object-in}
-use Rattle.objects.proofs.OnlyForm.{AllBytes, bytes-left, bytes-right}
-use Rattle.objects.proofs.RoundTrip.{Fit, tag-fit, write-gives, fit-writes, size-there, written-object, read-fit, read-written}
+use Rattle.objects.proofs.OnlyForm.{bytes-left, bytes-right}
+use Rattle.objects.proofs.RoundTrip.{tag-fit, write-gives, fit-writes, size-there, written-object, read-fit, read-written}
 use Rattle.picking.specs.Lists.{faultIn, objectsOf, objectsRefusal, tagsOf, tagsRefusal, tagRefusal, written}
+use Rattle.picking.specs.Claims.{objectBytes, Writable, AllWritable, AllTags}
 use Rattle.picking.proofs.Lists.{tag-sizes, object-sizes, tags-whole, objects-whole}
 
 -- ---- lists of objects
-
-abbrev pub objectBytes : Object → List ℕ
-objectBytes o = objectOf (o .tag) (o .value)
-
--- an object that the writer gives
-abbrev pub Writable : Object → Type 0
-Writable o = writeObject (o .tag) (o .value) ≡ Good (objectBytes o)
-
-abbrev pub AllWritable : List Object → Type 0
-AllWritable [] = Unit {0}
-AllWritable (o ∷ os) = Writable o × AllWritable os
 
 written-flat : (os : List Object) → written os ≡ flatten (map objectBytes os)
 unfolding flatten
@@ -96,10 +86,6 @@ list-read-written xs b e =
     (r .0 ∙ f, r .1)
 
 -- ---- tag lists, whatever the tags' size
-
-abbrev pub AllTags : List (List ℕ) → Type 0
-AllTags [] = Unit {0}
-AllTags (t ∷ ts) = (isTag t ≡ true) × AllTags ts
 
 all-tags : (ts : List (List ℕ)) → AllTags ts → AllPieces tagSize ts
 all-tags [] a = tt

@@ -10,11 +10,12 @@ use Rattle.answer.specs.declared.Answer.{Answer}
 use Rattle.answer.specs.Answers.{Result, Gives}
 use Rattle.answer.specs.Answers.Result.{Good, Refused}
 use Rattle.answer.proofs.Promises.{Gives-one, same-good, not-good, Numbered, success}
-use Rattle.objects.proofs.OnlyForm.{AllBytes}
 use Rattle.picking.specs.Lists.{objectsOf, objectsRefusal, tagsRefusal}
 use Rattle.picking.specs.Pick.{pickedOf, pick}
+use Rattle.picking.specs.Claims.{NoneWithheld}
 use Rattle.picking.proofs.Walking.{pick-tags, pick-objects, pick-good}
-use Rattle.picking.proofs.Withheld.{NoneWithheld, never-withheld}
+use Rattle.picking.proofs.Withheld.{never-withheld}
+use Rattle.objects.specs.Claims.{AllBytes}
 
 -- ONE RESULT: two results of a call that its promise allows for one entry are one
 pub pick-one : (tags objects out : List ℕ) (r s : Answer) (o o′ : List ℕ) → Gives (pick tags objects) out r o → Gives (pick tags objects) out s o′ → (r ≡ s) × (o ≡ o′)

@@ -19,9 +19,10 @@ use Rattle.answer.proofs.Parts.{part-add}
 use Rattle.objects.specs.declared.ObjectRead.{ObjectRead}
 use Rattle.objects.specs.Tag.{tagSize}
 use Rattle.objects.specs.Object.{Object, headerSize, valueSize, objectOf, objectRefusal, objectSize, objectIn}
+use Rattle.objects.specs.Claims.{AllBytes}
 use Rattle.objects.proofs.TagSizes.{tag-le}
 use Rattle.objects.proofs.Objects.{size-le, size-refusal, object-in, read-good}
-use Rattle.objects.proofs.OnlyForm.{AllBytes, bytes-drop}
+use Rattle.objects.proofs.OnlyForm.{bytes-drop}
 use Rattle.objects.proofs.RoundTrip.{read-written}
 use Rattle.picking.specs.Lists.{objectsOf, tagsOf, objectsRefusal, tagsRefusal}
 use Rattle.picking.specs.Pick.{same, isWithheld, shown, firstOf, picked, pickedOf, pick}

@@ -4,26 +4,19 @@ use mathlib.Core.Bool.{Bool, true, false, cond}
 use mathlib.Core.List.{List, [], _∷_, _++_, map, flatten, append-nil, append-assoc}
 use Prim.Native.Nat.{ℕ}
 use Rattle.answer.specs.Pieces.{pieces}
-use Rattle.answer.proofs.Pieces.{AllPieces, all-pieces, flatten-pieces}
+use Rattle.answer.specs.Claims.{AllPieces}
+use Rattle.answer.proofs.Pieces.{all-pieces, flatten-pieces}
 use Rattle.objects.specs.Object.{Object, objectOf, objectIn, objectSize}
+use Rattle.objects.specs.Claims.{AllBytes}
 use Rattle.objects.proofs.Objects.{size-le}
-use Rattle.objects.proofs.OnlyForm.{AllBytes, bytes-left, bytes-right}
+use Rattle.objects.proofs.OnlyForm.{bytes-left, bytes-right}
 use Rattle.picking.specs.Lists.{objectsOf, objectsRefusal, tagsOf, written}
 use Rattle.picking.specs.Pick.{same, isWithheld, shown, firstOf, picked, pickedOf}
+use Rattle.picking.specs.Claims.{AllWritable, firstPiece, pickedPieces, NoneWithheld}
 use Rattle.picking.proofs.Lists.{object-sizes, objects-whole}
-use Rattle.picking.proofs.ListRoundTrip.{AllWritable, piece-back, list-written-read, list-read-written}
+use Rattle.picking.proofs.ListRoundTrip.{piece-back, list-written-read, list-read-written}
 
 -- ---- as they stand
-
--- the first piece whose tag is t, as it stands, unless it is withheld
-unfoldable pub firstPiece : List ℕ → List (List ℕ) → List ℕ
-firstPiece t [] = []
-firstPiece t (p ∷ ps) = cond (same t (objectIn p .tag)) (cond (isWithheld (objectIn p .tag)) [] p) (firstPiece t ps)
-
--- and so for each tag of a list
-unfoldable pub pickedPieces : List (List ℕ) → List (List ℕ) → List ℕ
-pickedPieces [] ps = []
-pickedPieces (t ∷ ts) ps = firstPiece t ps ++ pickedPieces ts ps
 
 first-stands : (t : List ℕ) (ps : List (List ℕ)) → AllPieces objectSize ps → AllBytes (flatten ps) → firstOf t (map objectIn ps) ≡ firstPiece t ps
 unfolding firstOf shown firstPiece flatten
@@ -43,10 +36,6 @@ picked-as-they-stand tags objects b e =
     picked-stands (tagsOf tags) (pieces objectSize objects) (all-pieces objectSize object-sizes objects) (subst AllBytes (sym f) b)
 
 -- ---- none withheld
-
-abbrev pub NoneWithheld : List Object → Type 0
-NoneWithheld [] = Unit {0}
-NoneWithheld (o ∷ os) = (isWithheld (o .tag) ≡ false) × NoneWithheld os
 
 -- the object that is picked for a tag, if there is one and it may be shown
 unfoldable pub chosenFor : List ℕ → List Object → List Object

@@ -1,20 +1,64 @@
 -- The public calls are promised to the last field, and what a byte keeps of a reception that a device can be in.
-use mathlib.Core.Path.{_≡_, refl, sym, _∙_}
+use mathlib.Core.Path.{_≡_, refl, sym, ap, _∙_}
 use mathlib.Core.Bool.{Bool, true, false, cond}
+use mathlib.Core.List.{List}
 use Prim.Native.Nat.{ℕ, suc, _+_, _≤_}
 use native.Mathlib.Omega.{arith}
+use lib.ListN.{getD, drop}
 use lib.Dec.{leb, eqb}
 use borrow.Author.Tests.{leb-false}
 use Rattle.reception.specs.declared.Reception.{Reception}
 use Rattle.reception.specs.declared.Reception.the-variants.{Idle, InData, After13h, FirstCheck, SecondCheck}
 use Rattle.reception.specs.declared.Line.{Line}
-use Rattle.reception.specs.declared.Told.the-variants.{Payload}
+use Rattle.reception.specs.declared.Told.{Told}
+use Rattle.reception.specs.declared.Told.the-variants.{Nothing, Payload, Complete}
 use Rattle.reception.specs.declared.Took.{Took}
-use Rattle.reception.specs.Reception.{idle, started, goingOn, spoiledIn, placed, fromIdle, fromData, from13h, takenIn, taken}
+use Rattle.reception.specs.Cases.{codeOf, firstOf, receptionOf, toldOf, answerOf}
+use Rattle.reception.specs.Reception.{lineOf, tookOf, idle, started, goingOn, spoiledIn, placed, fromIdle, fromData, from13h, takenIn, taken}
 
--- ONE RESULT: two results that the promise of `take` allows are one, and so for `idle_line`
-pub take-one : (line : Line) (b : ℕ) (r s : Took) → r ≡ taken line b → s ≡ taken line b → r ≡ s
-take-one line b r s e f = e ∙ sym f
+-- ---- the numbers and values of the enums' cases stand for one case each
+
+pub reception-back : (r : Reception) → receptionOf (codeOf r) (firstOf r) ≡ r
+unfolding receptionOf
+reception-back Idle = refl
+reception-back InData = refl
+reception-back After13h = refl
+reception-back FirstCheck = refl
+reception-back (SecondCheck a) = refl
+
+-- from what a byte was
+abbrev toldBack : List ℕ → Told
+toldBack vs = cond (eqb (getD vs 0 0) 0) Nothing (cond (eqb (getD vs 0 0) 1) (Payload (getD vs 1 0) (getD vs 2 0)) (Complete (getD vs 1 0) (getD vs 2 0)))
+
+told-back : (t : Told) → toldBack (toldOf t) ≡ t
+told-back Nothing = refl
+told-back (Payload at b) = refl
+told-back (Complete a b) = refl
+
+spoiled-back : (b : Bool) → eqb (cond b 1 0) 1 ≡ b
+spoiled-back true = refl
+spoiled-back false = refl
+
+-- from a whole answer
+abbrev tookBack : List ℕ → Took
+tookBack vs = tookOf (lineOf (receptionOf (getD vs 0 0) (getD vs 1 0)) (eqb (getD vs 2 0) 1) (getD vs 3 0)) (toldBack (drop 4 vs))
+
+took-back : (t : Took) → tookBack (answerOf t) ≡ t
+unfolding answerOf
+took-back t =
+    let a = reception-back (t .line .state) in
+    let b = spoiled-back (t .line .spoiled) in
+    let c = told-back (t .told) in
+    λ i. tookOf (lineOf (a i) (b i) (t .line .count)) (c i)
+
+-- two answers of the same numbers are one
+pub answer-one : (r s : Took) → answerOf r ≡ answerOf s → r ≡ s
+answer-one r s e = sym (took-back r) ∙ ap tookBack e ∙ took-back s
+
+-- ---- ONE RESULT: two results that the promise of `take` allows are one, and so for `idle_line`
+
+pub take-one : (line : Line) (b : ℕ) (r s : Took) → answerOf r ≡ answerOf (taken line b) → answerOf s ≡ answerOf (taken line b) → r ≡ s
+take-one line b r s e f = answer-one r s (e ∙ sym f)
 
 pub idle-line-one : (r s : Line) → r ≡ idle → s ≡ idle → r ≡ s
 idle-line-one r s e f = e ∙ sym f

@@ -1,1 +1,3 @@
+-- In the order of reading.
+pub mod Cases
 pub mod Reception

@@ -1,6 +1,7 @@
 // How bytes of the line come together to packets (scope paper, section Reception): one byte at a time, with no store. The payload bytes go where
 // the caller keeps them; commands and replies are the caller's too.
 ghost use mathlib.Core.Path.{_≡_};
+ghost use Rattle.reception.specs.Cases.{answerOf};
 ghost use Rattle.reception.specs.Reception.{idle, started, spoiledIn, goingOn, placed, fromIdle, fromData, from13h, completed, taken};
 
 // The five reception states.
@@ -155,7 +156,7 @@ fn complete(first: u8, second: u8) -> Took
 
 // Takes one byte.
 pub fn take(line: Line, b: u8) -> Took
-    ensures { λ r. ⌜ r ≡ taken line b ⌝ }
+    ensures { λ r. ⌜ answerOf r ≡ answerOf (taken line b) ⌝ }
 {
     let state = line.state;
     match state {

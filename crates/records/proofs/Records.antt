@@ -10,9 +10,10 @@ use lib.Dec.{leb}
 use borrow.Author.Tests.{le-leb, lt-leb, leb-true}
 use Rattle.answer.specs.Digits.{isDigit, threeAt}
 use Rattle.answer.specs.Laid.{PieceAt}
-use Rattle.answer.proofs.Pieces.{Sizes, AllPieces, all-pieces, pieces-cons, pieces-stop, rest-same}
+use Rattle.answer.proofs.Pieces.{Sizes, all-pieces, pieces-cons, pieces-stop, rest-same}
 use Rattle.records.specs.declared.Found.{Found}
 use Rattle.records.specs.Record.{kindOf, networkOf, lengthGood, networkGood, indexGood, startsRecord, recordIn, recordAs, noRecord, foundIn, recs, takesAs, takes, namesAs, isNamed}
+use Rattle.records.specs.Claims.{AllRecords, a, b}
 use Rattle.answer.proofs.Parts.{and-left, and-right}
 use Rattle.answer.proofs.DigitLaws.{digit-nine}
 
@@ -121,10 +122,6 @@ record-alone xs h =
 
 pub record-sizes : Sizes recordIn
 record-sizes = record { le = record-le; append = record-append; alone = record-alone }
-
--- each of rs is a record
-abbrev pub AllRecords : List (List ℕ) → Type 0
-AllRecords rs = AllPieces recordIn rs
 
 -- ---- what is found
 

@@ -12,8 +12,9 @@ use Rattle.answer.specs.Pieces.{rest, isNone, whole, every}
 use Rattle.answer.proofs.Pieces.{none-true, flatten-pieces, pieces-flatten, rest-flatten}
 use Rattle.records.specs.Record.{recordIn, recs, takes}
 use Rattle.records.specs.Store.{zeros, storeOf, fits, allZero, soundStore}
+use Rattle.records.specs.Claims.{AllRecords, SoundAs, a, b}
 use Rattle.answer.proofs.Parts.{and-left, and-right}
-use Rattle.records.proofs.Records.{AllRecords, record-le, record-sizes, zero-none, recs-then, recs-all}
+use Rattle.records.proofs.Records.{record-le, record-sizes, zero-none, recs-then, recs-all}
 
 -- ---- zeros
 
@@ -83,14 +84,6 @@ unfolding storeOf flatten
 store-none size = let e : size - 0 ≡ size = omega arith in ap zeros e
 
 -- ---- A SOUND STORE holds records that a load for the network takes, which fit, and is told right
-
-pub record SoundAs (network used records : ℕ) (bytes : List ℕ) (rs : List (List ℕ)) : Type 0 where
-  pub is : bytes ≡ storeOf (length bytes) rs
-  pub used-is : used ≡ length (flatten rs)
-  pub records-is : records ≡ length rs
-  pub taken-all : every (takes network) rs ≡ true
-  pub fit : fits (length bytes) rs ≡ true
-  pub all : AllRecords rs
 
 module _ (network used records : ℕ) (bytes : List ℕ) where
   pub sound-as : soundStore network used records bytes ≡ true → SoundAs network used records bytes (recs (take used bytes))

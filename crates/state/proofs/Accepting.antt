@@ -41,13 +41,6 @@ sized-both x e =
 
 -- ---- a sound state
 
--- the sizes of a device's arrays, which their types give
-pub record Arrays (d : Device) : Type 0 where
-  pub store-long : length (d .store) ≡ 2048
-  pub payload-long : length (d .held .response .payload) ≡ 19
-  pub versions-long : length (d .tables .versions) ≡ 1000
-  pub version-long : length (d .tables .load .version) ≡ 10
-
 -- a held response that is sound is at most 19 bytes
 pub held-short : (h : Held) → heldSound h ≡ true → h .response .length ≤ 19
 unfolding heldSound

@@ -12,21 +12,14 @@ use Rattle.answer.specs.Pieces.{every}
 use Rattle.answer.specs.Laid.{pasted}
 use Rattle.records.specs.Record.{recordIn, recs, takes, goodBlock, recordsOf}
 use Rattle.records.specs.Store.{zeros, storeOf, fits, allZero, soundStore}
-use Rattle.records.proofs.Records.{AllRecords, recs-all}
-use Rattle.records.proofs.Stores.{SoundAs, sound-as, as-sound, fits-bytes, store-long, zeros-are, zeros-all}
+use Rattle.records.specs.Claims.{AllRecords, SoundAs}
+use Rattle.records.proofs.Records.{recs-all}
+use Rattle.records.proofs.Stores.{sound-as, as-sound, fits-bytes, store-long, zeros-are, zeros-all}
 use Rattle.tables.specs.declared.Load.{Load}
 use Rattle.tables.specs.Loading.{taken, takenOf, Kept, keepOne, keepAll, Stocked, hasRoom, stockOne, stockAll, Adds}
+use Rattle.tables.specs.Claims.{Holds, d}
 use Rattle.answer.proofs.Parts.{and-left, and-right, flatten-append, every-append, all-join}
 use Rattle.tables.proofs.Stocking.{both}
-
--- ---- a store that holds what is kept, told right
-
-pub record Holds (size : ℕ) (k : Kept) (s : Stocked) : Type 0 where
-  pub bytes-are : s .bytes ≡ storeOf size (k .records)
-  pub used-is : s .load .used ≡ length (flatten (k .records))
-  pub records-are : s .load .records ≡ length (k .records)
-  pub over-is : s .load .over ≡ k .over
-  pub fit : fits size (k .records) ≡ true
 
 -- ---- one record more
 

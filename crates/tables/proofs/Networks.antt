@@ -10,13 +10,9 @@ use lib.Dec.{leb, ltb, eqb}
 use borrow.Author.Tests.{ne-eqb, le-leb, leb-true, ltb-true, ltb-false}
 use Rattle.answer.specs.Laid.{pasted}
 use Rattle.answer.proofs.Laid.{pasted-length}
-use Rattle.tables.specs.Closing.{noVersion, newVersions}
+use Rattle.tables.specs.Closing.{versionOf, noVersion, newVersions}
 use Rattle.answer.proofs.Parts.{drop-take}
 use Rattle.tables.proofs.Versions.{many, many-long, versions-same}
-
--- the version of a network
-abbrev pub versionOf : ℕ → List ℕ → List ℕ
-versionOf n versions = take 10 (drop (n * 10) versions)
 
 -- ---- ten bytes put in the place of a network
 

@@ -8,12 +8,13 @@ use lib.Dec.{eqb}
 use Rattle.answer.specs.Pieces.{every}
 use Rattle.records.specs.Record.{recordIn, recs, kindOf, networkOf, isKind, takes, isNamed}
 use Rattle.records.specs.Store.{storeOf, fits, soundStore}
-use Rattle.records.proofs.Records.{AllRecords}
-use Rattle.records.proofs.Stores.{SoundAs, sound-as, as-sound, used-part, sound-recs, fits-bytes, store-long, store-none, zeros-sound}
+use Rattle.records.specs.Claims.{AllRecords, SoundAs}
+use Rattle.records.proofs.Stores.{sound-as, as-sound, used-part, sound-recs, fits-bytes, store-long, store-none, zeros-sound}
 use Rattle.tables.specs.declared.Extent.{Extent}
 use Rattle.tables.specs.declared.Load.{Load}
 use Rattle.tables.specs.declared.Closed.{Closed}
 use Rattle.tables.specs.Closing.{notNamed, newSet, newBytes, newRecords, closes, Closes}
+use Rattle.tables.specs.Claims.{newIn, newFits}
 use Rattle.answer.proofs.Parts.{and-left, and-right, flatten-append, every-append, all-join}
 
 -- ---- what a load for one network takes, a load for 00 takes
@@ -66,7 +67,7 @@ module _ (network : ℕ) (extent : Extent) (live : List ℕ) (load : Load) (load
   loadRecords = recs (take (load .used) loading)
 
   abbrev pub new : List (List ℕ)
-  new = newSet network liveRecords loadRecords
+  new = newIn network extent live load loading
 
   live-as : SoundAs 0 (extent .used) (extent .records) live liveRecords
   live-as = sound-as 0 (extent .used) (extent .records) live live-sound
@@ -100,11 +101,11 @@ module _ (network : ℕ) (extent : Extent) (live : List ℕ) (load : Load) (load
 
   module _ (r : Closed) (live′ loading′ : List ℕ) (c : Closes network extent load live loading r live′ loading′) where
     -- whether it closed
-    pub done-is : r .done ≡ (not (load .over) && fits (length live) new)
+    pub done-is : r .done ≡ newFits network extent live load loading
     done-is = c .done ∙ closes-is
 
     -- the live store is that of the new set, or stays
-    pub live-is : live′ ≡ cond (not (load .over) && fits (length live) new) (storeOf (length live) new) live
+    pub live-is : live′ ≡ cond (newFits network extent live load loading) (storeOf (length live) (newIn network extent live load loading)) live
     unfolding storeOf
     live-is = c .store ∙ rw (closes-is, new-bytes) refl
 
@@ -114,7 +115,7 @@ module _ (network : ℕ) (extent : Extent) (live : List ℕ) (load : Load) (load
 
     -- the records of the live store after it
     abbrev pub recordsAfter : List (List ℕ)
-    recordsAfter = cond (not (load .over) && fits (length live) new) new liveRecords
+    recordsAfter = cond (newFits network extent live load loading) new liveRecords
 
     -- the live store is sound, by the numbers that the call answers
     pub live-sound-as : SoundAs 0 (r .used) (r .records) live′ recordsAfter
@@ -152,7 +153,7 @@ module _ (network : ℕ) (extent : Extent) (live : List ℕ) (load : Load) (load
     closed-sound = as-sound 0 (r .used) (r .records) live′ recordsAfter live-sound-as
 
     -- and its records are the new set, or those of before
-    pub closed-records : recs (take (r .used) live′) ≡ recordsAfter
+    pub closed-records : recs (take (r .used) live′) ≡ cond (newFits network extent live load loading) (newIn network extent live load loading) (recs (take (extent .used) live))
     closed-records = sound-recs 0 (r .used) (r .records) live′ recordsAfter live-sound-as
 
     -- the loading store is sound for the next load, for whatever network

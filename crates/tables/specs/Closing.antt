@@ -3,7 +3,7 @@ use Prim.Native.Nat.{ℕ, _+_, _-_, _*_}
 use mathlib.Core.Path.{_≡_}
 use mathlib.Core.Bool.{Bool, not, _&&_, cond}
 use mathlib.Core.List.{List, [], _∷_, _++_, flatten}
-use lib.ListN.{length, take, replicate}
+use lib.ListN.{length, take, drop, replicate}
 use lib.Dec.{leb, eqb}
 use Rattle.answer.specs.Laid.{pasted}
 use Rattle.records.specs.Record.{recs, isNamed}
@@ -19,7 +19,7 @@ unfoldable pub notNamed : ℕ → List (List ℕ) → List (List ℕ)
 notNamed network [] = []
 notNamed network (r ∷ rs) = cond (isNamed network r) (notNamed network rs) (r ∷ notNamed network rs)
 
--- THE NEW SET: the old live records of networks not named, in order, and then the load's
+-- THE NEW SET: what stays of the live records, with the load's records after it
 unfoldable pub newSet : ℕ → List (List ℕ) → List (List ℕ) → List (List ℕ)
 newSet network live load = notNamed network live ++ load
 
@@ -53,6 +53,10 @@ pub record Closes (network : ℕ) (extent : Extent) (load : Load) (live loading 
 
 -- ---- the versions, ten bytes for each of the networks 00 to 99
 
+-- the version that is held for a network
+abbrev pub versionOf : ℕ → List ℕ → List ℕ
+versionOf n versions = take 10 (drop (n * 10) versions)
+
 -- ten "0" bytes
 abbrev pub noVersion : List ℕ
 noVersion = replicate 10 0x30
@@ -61,7 +65,7 @@ noVersion = replicate 10 0x30
 abbrev pub newVersion : Bool → List ℕ → List ℕ
 newVersion any version = cond any version noVersion
 
--- THE VERSIONS AFTER a load: for 00 all 100 become the new one; for another network its own becomes the new one, and that of 00 ten "0" bytes.
+-- THE VERSIONS AFTER a load: one for 00 renames all 100 networks; one for another network renames that network, and clears the name of 00 to ten "0" bytes.
 -- There is no network above 99
 unfoldable pub newVersions : ℕ → List ℕ → List ℕ → List ℕ
 newVersions network version versions =

@@ -7,7 +7,8 @@ use borrow.Author.Needs.{needs}
 use borrow.Author.Tests.{not-true, not-false}
 use Rattle.state.specs.declared.Device.{Device}
 use Rattle.state.specs.State.{State, stateAs, canResend}
-use Rattle.state.proofs.Accepting.{Arrays, held-short, line-good, held-good}
+use Rattle.state.specs.Claims.{Arrays}
+use Rattle.state.proofs.Accepting.{held-short, line-good, held-good}
 use Rattle.gathering.specs.Gathering.{asksIn}
 use Rattle.device.proofs.Replies.{Known}
 use Rattle.device.proofs.Knowing.{known}

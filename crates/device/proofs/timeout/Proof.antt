@@ -4,7 +4,8 @@ use lib.ListN.{length}
 use borrow.Author.Needs.{needs}
 use Rattle.state.specs.State.{stateAs}
 use Rattle.state.specs.Sound.{refusalOf}
-use Rattle.state.proofs.Accepting.{accepted, Arrays, held-good}
+use Rattle.state.specs.Claims.{Arrays}
+use Rattle.state.proofs.Accepting.{accepted, held-good}
 use Rattle.device.specs.Promise.{afterPiece, afterEvent}
 use Rattle.device.specs.Events.Event.{timeout, restart}
 use Rattle.device.proofs.Replies.{Known}

@@ -4,6 +4,8 @@ use mathlib.Core.Path.{_≡_, refl, sym, ap, _∙_}
 use native.Mathlib.Omega.{arith}
 use lib.ListN.{length, drop, getD}
 use borrow.Author.Needs.{needs}
+use Rattle.reception.specs.Reception.{taken}
+use Rattle.reception.proofs.Promises.{answer-one}
 use Rattle.gathering.specs.Gathering.{Got, gathered}
 use Rattle.gathering.proofs.Kept.{gathers, placed-long, gather-last, gather-more, gather-none}
 use Rattle.gathering.proofs.gather.Statement.{statement}
@@ -31,11 +33,12 @@ loop-again c =
     let l = w .before .before .before .before .loop in
     let a = w .before .before .before .before .before .before .before .args in
     let e = sym (w .before .asks .ensures) ∙ w .if1 .left in
-    let s = simp (t .take .ensures) at (p .place .ensures) in
+    let k = answer-one (t .take .result) (taken (l .at) (getD (a .piece .now) (l .i) 0)) (t .take .ensures) in
+    let s = simp k at (p .place .ensures) in
     let n = placed-long (l .store) (t .take .result .told) in (
       omega arith,
       ap length (p .place .ensures) ∙ n ∙ l .inv .1,
-      simp (t .take .ensures, s) (l .inv .2 ∙ gather-more (a .resend) (l .at) (l .store) (l .i) (a .piece .now) (omega arith) e),
+      simp (k, s) (l .inv .2 ∙ gather-more (a .resend) (l .at) (l .store) (l .i) (a .piece .now) (omega arith) e),
     )
 
 returns-2 : tie.Need-returns-2 Inv-loop μ-loop

@@ -30,7 +30,7 @@ extern "C" {
 #define ABECS_STORE 32768u
 
 /* A device between two calls, in the caller's memory. Look at it, copy it, keep it; a call judges it before it uses it, and an image that no device
- * can have is refused as 3. */
+ * can have is refused as 3. The padding that C puts after the last field is nobody's: no call reads it, and what it holds afterwards is not promised. */
 struct abecs_device {
     uint8_t state;        /* 0 idle, 1 in data, 2 in data after 13h, 3 waits for the first check byte, 4 for the second */
     uint8_t first;        /* the first check byte in state 4, else 0 */
@@ -59,7 +59,7 @@ struct abecs_taken {
     size_t written;
 };
 
-/* Starts a fresh device and zeroes both stores. Refusal: 2 (the device is fresh all the same, the stores are as they were). */
+/* Starts a fresh device where `device` points, whatever stands there, and zeroes both stores. Refusal: 2, which leaves all three as they were. */
 struct abecs_taken abecs_start(struct abecs_device *device, uint8_t *live, size_t live_len, uint8_t *loading, size_t loading_len);
 
 /* Takes bytes of the line: up to the one that completes a reply, or all. Offer again what was not taken. Refusals: 1, 2, 3. */

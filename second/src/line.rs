@@ -21,8 +21,7 @@ impl Line {
     pub fn fresh() -> Self {
         let mut live = vec![0; SIZE];
         let mut loading = vec![0; SIZE];
-        let (device, refusal) = Device::start(&mut live, &mut loading);
-        assert_eq!(refusal, 0, "the stores are of their size");
+        let device = Device::start(&mut live, &mut loading).expect("the stores are of their size");
         Line {
             device,
             live,

@@ -10,23 +10,36 @@ use second::table::store::SIZE;
 /// One right and some wrong.
 const LENGTHS: [usize; 7] = [SIZE, 0, 1, 64, SIZE - 1, SIZE + 1, 2 * SIZE];
 
-/// The device is fresh also where it is refused; the stores then stay.
+/// A refused start leaves the image that it was lent, be it a device in the middle
+/// of a load or no device at all, and both stores.
 #[test]
 fn stores_of_right_and_wrong_lengths() {
-    for live in LENGTHS {
-        for loading in LENGTHS {
-            let (devices, done) = Devices::start([live, loading]);
-            let right = [live, loading] == SIZES;
-            assert_eq!(done.refusal, if right { 0 } else { 2 });
-            assert!(*devices.image() == fresh().device);
-            let wanted = [live, loading].map(|length| match right {
-                true => vec![0; length],
-                false => fresh_buffer(length),
-            });
-            let kept = devices.kept();
-            assert!([kept.live, kept.loading] == wanted);
+    for device in [Image::filled(0xEE), Image::filled(0), in_a_load()] {
+        for [live, loading] in LENGTHS.map(|one| LENGTHS.map(|other| [one, other])).concat() {
+            let before = Kept {
+                device: device.clone(),
+                live: fresh_buffer(live),
+                loading: fresh_buffer(loading),
+            };
+            let (devices, done) = Devices::start_over(&before);
+            if [live, loading] == SIZES {
+                assert_eq!(done.refusal, 0);
+                assert!(devices.kept() == fresh());
+            } else {
+                assert_eq!(done.refusal, 2);
+                assert!(devices.kept() == before, "{live} and {loading} bytes");
+            }
         }
     }
+}
+
+/// The image of a device with a load open and a response held.
+fn in_a_load() -> Image {
+    let (mut devices, _) = Devices::start(SIZES);
+    devices.hand_over(&framed(b"TLI01201VERSION001"), 64);
+    let image = devices.kept().device;
+    assert!(image.opened == 1 && image.length == 6);
+    image
 }
 
 /// What a fresh device is, by the scope paper's section Commands alone.

@@ -30,12 +30,12 @@ ghost use Rattle.abecs.specs.Flags.{loadOf, extentOf, AddsOf, ClosesOf, 
 
 // ---- the device: no enum crosses, so its image is lent, and brought up to date where it stands
 
-// Starts a fresh device and zeroes both stores. Refusal: 2.
+// Starts a fresh device and zeroes both stores. Refusal: 2, which leaves the image as it was, whatever its bytes.
 #[no_mangle]
 pub extern "C" fn abecs_start(image: &mut Image, live: &mut [u8], loading: &mut [u8]) -> Taken
-    ensures { λ r. ⌜ StartsImage (now (live .entry)) (now (loading .entry)) (record { image = now (image .exit); answer = r }) (now (live .exit)) (now (loading .exit)) ⌝ }
+    ensures { λ r. ⌜ StartsImage (now (image .entry)) (now (live .entry)) (now (loading .entry)) (record { image = now (image .exit); answer = r }) (now (live .exit)) (now (loading .exit)) ⌝ }
 {
-    let next = start_image(live, loading);
+    let next = start_image(*image, live, loading);
     *image = next.image;
     next.answer
 }

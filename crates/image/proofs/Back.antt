@@ -3,30 +3,24 @@ use mathlib.Core.Path.{_≡_, refl, sym, ap, _∙_}
 use mathlib.Core.Logic.{_≢_}
 use mathlib.Core.Bool.{Bool, true, false, not, _&&_, _||_, cond, false≢true}
 use mathlib.Core.List.{List}
-use Prim.Native.Nat.{ℕ}
+use Prim.Native.Nat.{ℕ, _≤_}
 use native.Mathlib.Omega.{arith}
 use lib.Dec.{leb, eqb}
-use borrow.Author.Tests.{leb-true, eqb-true, eqb-false}
+use borrow.Author.Tests.{leb-true, le-ltb, eqb-true, eqb-false}
 use Rattle.answer.proofs.Parts.{and-left, and-right}
 use Rattle.reception.specs.declared.Reception.{Reception}
 use Rattle.reception.specs.declared.Reception.the-variants.{Idle, InData, After13h, FirstCheck, SecondCheck}
+use Rattle.reception.specs.Cases.{codeOf, firstOf, receptionOf}
+use Rattle.reception.proofs.Promises.{reception-back}
 use Rattle.state.specs.declared.Device.{Device}
 use Rattle.state.specs.State.{isIdle}
-use Rattle.state.specs.Sound.{lineSound, sound, refusalOf}
+use Rattle.state.specs.Sound.{bothSized, isSized, lineSound, sound, refusalOf}
 use Rattle.state.proofs.Accepting.{accepted}
 use Rattle.image.specs.declared.Image.{Image}
-use Rattle.image.specs.Image.{flagOf, codeOf, firstOf, imageOf, receptionOf, isImage, countIn, deviceOf}
+use Rattle.image.specs.Image.{flagOf, imageOf, isImage, countIn, deviceOf}
 use Rattle.image.specs.ImagePromise.{stateIn}
 
 -- ---- from the device and back
-
-reception-back : (r : Reception) → receptionOf (codeOf r) (firstOf r) ≡ r
-unfolding receptionOf
-reception-back Idle = refl
-reception-back InData = refl
-reception-back After13h = refl
-reception-back FirstCheck = refl
-reception-back (SecondCheck a) = refl
 
 flag-back : (b : Bool) → not (eqb (flagOf b) 0) ≡ b
 flag-back true = refl
@@ -200,7 +194,12 @@ bad-refused i live loading e =
     (ap (λ (t : Bool). cond (isIdle (receptionOf (i .state) (i .first))) (eqb (countIn t (i .count)) 0 && not (not (eqb (i .spoiled) 0))) (leb (countIn t (i .count)) 2048)) e
     ∙ line-bad (isIdle (receptionOf (i .state) (i .first))) (not (eqb (i .spoiled) 0)))
 
--- NO CALL accepts them
+-- A CALL on them is refused as 3 where its room and both sizes are right; else as 1 or 2, which come first
+pub bad-is-three : (i : Image) (room : ℕ) (live loading : List ℕ) → isImage i ≡ false → 64 ≤ room → bothSized live loading ≡ true → refusalOf room (stateIn i live loading) ≡ 3
+unfolding refusalOf isSized
+bad-is-three i room live loading e k s = rw (le-ltb room 64 k, s, bad-refused i live loading e) refl
+
+-- and is never accepted
 pub bad-not-accepted : (i : Image) (room : ℕ) (live loading : List ℕ) → isImage i ≡ false → refusalOf room (stateIn i live loading) ≢ 0
 bad-not-accepted i room live loading e h =
     false≢true (sym (bad-refused i live loading e) ∙ accepted room (stateIn i live loading) h .is-sound)

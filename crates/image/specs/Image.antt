@@ -2,30 +2,13 @@
 use Prim.Native.Nat.{ℕ, zero, suc}
 use mathlib.Core.Bool.{Bool, true, false, not, _&&_, _||_, cond}
 use lib.Dec.{leb, eqb}
-use Rattle.reception.specs.declared.Reception.{Reception}
-use Rattle.reception.specs.declared.Reception.the-variants.{Idle, InData, After13h, FirstCheck, SecondCheck}
+use Rattle.reception.specs.Cases.{codeOf, firstOf, receptionOf}
 use Rattle.state.specs.declared.Device.{Device}
 use Rattle.image.specs.declared.Image.{Image}
 
 -- a flag is a byte, 0 or 1
 abbrev pub flagOf : Bool → ℕ
 flagOf b = cond b 1 0
-
--- the five states by number: 0 idle, 1 in data, 2 in data after 13h, 3 waiting for the first check byte, 4 for the second
-abbrev pub codeOf : Reception → ℕ
-codeOf Idle = 0
-codeOf InData = 1
-codeOf After13h = 2
-codeOf FirstCheck = 3
-codeOf (SecondCheck a) = 4
-
--- the first check byte, where it is held
-abbrev pub firstOf : Reception → ℕ
-firstOf Idle = 0
-firstOf InData = 0
-firstOf After13h = 0
-firstOf FirstCheck = 0
-firstOf (SecondCheck a) = a
 
 -- THE IMAGE of a device
 unfoldable pub imageOf : Device → Image
@@ -52,9 +35,6 @@ imageOf d =
     }
 
 -- ---- and back
-
-unfoldable pub receptionOf : ℕ → ℕ → Reception
-receptionOf code first = cond (eqb code 0) Idle (cond (eqb code 1) InData (cond (eqb code 2) After13h (cond (eqb code 3) FirstCheck (SecondCheck first))))
 
 -- a number that stands for a state, with a first check byte only where one is held, and flags that are 0 or 1
 unfoldable pub isImage : Image → Bool

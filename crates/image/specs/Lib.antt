@@ -1,3 +1,5 @@
 -- In the order of reading.
 pub mod Image
 pub mod ImagePromise
+pub mod ImageCalls
+pub mod Claims

@@ -12,7 +12,8 @@ use tables::Load;
 ghost use mathlib.Core.Path.{_≡_};
 ghost use mathlib.Core.Bool.{not};
 ghost use lib.Dec.{eqb};
-ghost use Rattle.image.specs.Image.{codeOf, firstOf, imageOf, receptionOf, isImage, countIn, deviceOf};
+ghost use Rattle.reception.specs.Cases.{codeOf, firstOf, receptionOf};
+ghost use Rattle.image.specs.Image.{imageOf, isImage, countIn, deviceOf};
 
 // The number of a state.
 fn code(reception: Reception) -> u8

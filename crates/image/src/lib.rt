@@ -70,21 +70,21 @@ fn after(image: Image, got: Received) -> Imaged
     Imaged { image, answer }
 }
 
-// Starts a fresh device.
-pub fn start_image(live: &mut [u8], loading: &mut [u8]) -> Imaged
-    ensures { λ r. ⌜ StartsImage (now (live .entry)) (now (loading .entry)) r (now (live .exit)) (now (loading .exit)) ⌝ }
+// Starts a fresh device. A refused call leaves the image as it was.
+pub fn start_image(image: Image, live: &mut [u8], loading: &mut [u8]) -> Imaged
+    ensures { λ r. ⌜ StartsImage image (now (live .entry)) (now (loading .entry)) r (now (live .exit)) (now (loading .exit)) ⌝ }
 {
     let started = device::start(live, loading);
     let fresh = started.device;
-    let image = image_of(fresh);
-    Imaged {
+    after(
         image,
-        answer: Taken {
+        Received {
+            device: fresh,
             refusal: started.refusal,
             taken: 0,
             written: 0,
         },
-    }
+    )
 }
 
 // Takes a piece of the line's bytes.

@@ -48,20 +48,19 @@ pub struct Done {
 }
 
 impl Device {
-    /// A fresh device, and the call's refusal number or 0. The stores are zeroed
-    /// unless it is refused.
-    pub fn start(live: &mut [u8], loading: &mut [u8]) -> (Self, u8) {
-        let fresh = Device {
-            reception: Reception::fresh(),
-            tables: Tables::fresh(),
-            held: None,
-        };
+    /// A fresh device, and both stores zeroed; or the call's refusal number, and
+    /// nothing is changed.
+    pub fn start(live: &mut [u8], loading: &mut [u8]) -> Result<Self, u8> {
         if live.len() != SIZE || loading.len() != SIZE {
-            return (fresh, WRONG_STORE);
+            return Err(WRONG_STORE);
         }
         live.fill(0);
         loading.fill(0);
-        (fresh, 0)
+        Ok(Device {
+            reception: Reception::fresh(),
+            tables: Tables::fresh(),
+            held: None,
+        })
     }
 
     /// Takes the piece, up to the byte that completes a reply.

@@ -106,15 +106,11 @@ fn an_empty_piece_is_judged_as_well() {
 #[test]
 fn starting_zeroes_the_stores_or_is_refused() {
     let (mut live, mut loading) = (vec![1; 32_768], vec![2; 32_768]);
-    let (device, refusal) = Device::start(&mut live, &mut loading);
-    assert_eq!(refusal, 0);
-    assert!(device == Line::fresh().device);
+    assert!(Device::start(&mut live, &mut loading) == Ok(Line::fresh().device));
     assert!((live, loading) == (vec![0; 32_768], vec![0; 32_768]));
     for (one, other) in [(32_767, 32_768), (32_768, 32_769), (0, 0), (32_768, 0)] {
         let (mut live, mut loading) = (vec![1; one], vec![2; other]);
-        let (device, refusal) = Device::start(&mut live, &mut loading);
-        assert_eq!(refusal, 2);
-        assert!(device == Line::fresh().device);
+        assert!(Device::start(&mut live, &mut loading) == Err(2));
         assert!((live, loading) == (vec![1; one], vec![2; other]));
     }
 }

@@ -45,18 +45,28 @@ impl Devices {
     /// Starts both in memory full of other bytes, with stores of these lengths.
     pub fn start(lengths: [usize; 2]) -> (Self, Done) {
         let [live, loading] = lengths.map(fresh_buffer);
-        let mut devices = Devices::of(&Kept {
+        Devices::start_over(&Kept {
             device: Image::filled(0xEE),
             live,
             loading,
-        });
-        let before = devices.kept();
+        })
+    }
+
+    /// Starts both in memory that holds this, be it a device or not.
+    pub fn start_over(kept: &Kept<Image>) -> (Self, Done) {
+        let lengths = [kept.live.len(), kept.loading.len()];
+        let mut devices = Devices::of(kept);
         let got = devices.proved.lend(proved::start);
         let Kept { live, loading, .. } = &mut devices.second;
-        let (device, refusal) = Device::start(lent(live), lent(loading));
-        devices.second.device = Some(device);
+        let refusal = match Device::start(lent(live), lent(loading)) {
+            Ok(device) => {
+                devices.second.device = Some(device);
+                0
+            }
+            Err(refusal) => refusal,
+        };
         assert_eq!(got, refused(refusal), "start {lengths:?}");
-        devices.assert_alike(&before, || format!("start {lengths:?}"));
+        devices.assert_alike(kept, || format!("start {lengths:?}"));
         (devices, got)
     }
 

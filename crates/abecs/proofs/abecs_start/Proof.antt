@@ -1,9 +1,9 @@
--- `abecs::abecs_start` meets its contract: `InPlaceFresh.antt`'s law, at the structs and the callee.
+-- `abecs::abecs_start` meets its contract: `InPlaceStart.antt`'s law, at the structs and the callee.
 use contract.Running.{givenOf, tables, tablesOf}
 use denote.Triple.Spec.{tripleOf}
 use denote.Triple.Table.{entered, cited}
 use Rattle.image.specs.ImagePromise.{StartsImage}
-use Rattle.abecs.proofs.InPlaceFresh as law
+use Rattle.abecs.proofs.InPlaceStart as law
 use Rattle.abecs.proofs.ImageLent.{lent}
 use Rattle.image.proofs.start_image.Symbol as g-def
 use Rattle.image.proofs.start_image.Symbol.{name as #g}

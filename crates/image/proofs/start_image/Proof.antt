@@ -1,5 +1,4 @@
 -- `image::start_image` meets its contract.
-use mathlib.Core.Path.{refl}
 use borrow.Author.Needs.{needs}
 use Rattle.image.proofs.Imaging.{starts-imaged}
 use Rattle.image.proofs.start_image.Statement.{statement}
@@ -9,7 +8,7 @@ returns : tie.Need-returns
 returns c =
     let s = c .before .before .before .before .before .before in
     let a = s .before .before .before .before .before .args in
-    starts-imaged (a .live .now) (a .loading .now) (s .start .result) (c .image-of .result) _ _ _ (s .start .ensures) (c .image-of .ensures) refl
+    starts-imaged (a .image) (a .live .now) (a .loading .now) (s .start .result) (c .after .result) _ _ (s .start .ensures) (c .after .ensures)
 
 pub start-image-spec : {M : Type 1} → statement M
 start-image-spec = tie.close (tie.spec (λ c κs. search needs) (λ c κs. search needs) (λ c. search needs) (λ c. search needs) returns)

@@ -1,6 +1,6 @@
 -- `image::converting::reception_of` meets its contract.
 use borrow.Author.Tests.{ne-eqb}
-use Rattle.image.specs.Image.{receptionOf}
+use Rattle.reception.specs.Cases.{receptionOf}
 use Rattle.image.proofs.converting.reception_of.Statement.{statement}
 use Rattle.image.proofs.converting.reception_of.Tie as tie
 

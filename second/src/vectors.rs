@@ -2,18 +2,27 @@
 //! them; a line that starts with `#` is a comment.
 
 use crate::hex;
+use crate::material::history::Event;
 use crate::packet::SYN;
 use std::path::Path;
+
+/// Who sends what a device gets, and who answers.
+pub const HOST: &str = "SPE";
+pub const DEVICE: &str = "PP";
+
+/// A pause that the driver tells the device of. Nobody sends anything then.
+pub const TIMEOUT: &str = "timeout";
 
 /// What the device sends before a response packet (the scope paper, section
 /// Reception).
 const ACK: u8 = 0x06;
 
-/// The documents' examples, file by file.
+/// The documents' examples and the worked loads, file by file.
 pub struct Vectors {
     pub packets: Vec<Entry>,
     pub messages: Vec<Entry>,
     pub objects: Vec<Entry>,
+    pub loads: Vec<Entry>,
 }
 
 /// One block of a file.
@@ -22,7 +31,7 @@ pub struct Entry {
 }
 
 impl Vectors {
-    /// Reads the three files of the folder.
+    /// Reads the four files of the folder.
     pub fn read(folder: &Path) -> Result<Vectors, String> {
         let entries = |name| {
             let file = folder.join(name);
@@ -34,6 +43,7 @@ impl Vectors {
             packets: entries("packets.txt")?,
             messages: entries("messages.txt")?,
             objects: entries("objects.txt")?,
+            loads: entries("loads.txt")?,
         })
     }
 }
@@ -113,28 +123,51 @@ impl Entry {
     /// sends the commands.
     pub fn response(&self) -> Result<bool, String> {
         match self.text("dir")? {
-            "PP" => Ok(true),
-            "SPE" => Ok(false),
+            DEVICE => Ok(true),
+            HOST => Ok(false),
             other => Err(format!("{}: dir {other}", self.text("id")?)),
         }
     }
 
-    /// The steps of an exchange: who sends, and what.
+    /// The steps of an exchange or a load: who sends, and what. A timeout is a step
+    /// of no bytes.
     pub fn steps(&self) -> Result<Vec<(&str, Vec<u8>)>, String> {
         self.text("steps")?
             .split(" ; ")
             .map(|step| {
+                if step == TIMEOUT {
+                    return Ok((step, Vec::new()));
+                }
                 let (sender, bytes) = step.split_once(' ').ok_or("a step without bytes")?;
                 let bytes = hex::read_spaced(bytes).ok_or("a step is no bytes")?;
                 Ok((sender, bytes))
             })
             .collect()
     }
+
+    /// What a device meets in the steps: all that the host sends, and the timeouts.
+    pub fn history(&self) -> Result<Vec<Event>, String> {
+        let steps = self.steps()?.into_iter();
+        let events = steps.filter_map(|(sender, bytes)| match sender {
+            HOST => Some(Event::Bytes(bytes)),
+            TIMEOUT => Some(Event::Timeout),
+            _ => None,
+        });
+        Ok(events.collect())
+    }
+
+    /// What the device replies in the steps, joined.
+    pub fn replies(&self) -> Result<Vec<u8>, String> {
+        let steps = self.steps()?.into_iter();
+        let replies = steps.filter(|(sender, _)| *sender == DEVICE);
+        Ok(replies.flat_map(|(_, bytes)| bytes).collect())
+    }
 }
 
 #[cfg(test)]
 mod tests {
     use super::parse;
+    use crate::material::history::Event;
 
     const SMALL: &str = "# a comment\n\nid: A\nkind: packet\nhex: 06 16 4F\n\n\n\
         id: B\nkind: exchange\nsteps: SPE 16 17 ; PP 15\n";
@@ -150,6 +183,20 @@ mod tests {
         let steps = vec![("SPE", vec![0x16, 0x17]), ("PP", vec![0x15])];
         assert_eq!(entries[1].steps(), Ok(steps));
         assert!(entries[1].hex().is_err());
+    }
+
+    #[test]
+    fn a_history_and_its_replies() {
+        let text = "id: A\nsteps: SPE 16 17 ; PP 15 ; SPE 16 ; timeout ; SPE 18 ; PP 04\n";
+        let entries = parse(text).expect("the text is well formed");
+        let history = vec![
+            Event::Bytes(vec![0x16, 0x17]),
+            Event::Bytes(vec![0x16]),
+            Event::Timeout,
+            Event::Bytes(vec![0x18]),
+        ];
+        assert_eq!(entries[0].history(), Ok(history));
+        assert_eq!(entries[0].replies(), Ok(vec![0x15, 0x04]));
     }
 
     #[test]

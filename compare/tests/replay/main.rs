@@ -3,6 +3,7 @@
 
 mod cuts;
 mod seen;
+mod worked;
 
 use compare::program::{proved_replay, Feed, Running};
 use compare::seed;

@@ -23,16 +23,16 @@ started-fresh live loading r live′ loading′ s e =
     ∙ ap (λ (n : ℕ). stateAs (stateOf fresh .device) (startedFrom n live loading .live) (startedFrom n live loading .loading)) z
 
 -- all of a history was handed over
-whole : (h : List Event) {y : State} {said : List ℕ} → Handed fresh h [] y said → (y ≡ stateOf (run fresh h .machine)) × (said ≡ run fresh h .reply)
-whole h i =
+pub whole-run : (h : List Event) {y : State} {said : List ℕ} → Handed fresh h [] y said → (y ≡ stateOf (run fresh h .machine)) × (said ≡ run fresh h .reply)
+whole-run h i =
     let e : i .prefix ≡ h = sym (i .splits ∙ append-nil (i .prefix)) in
     (i .state-is ∙ ap (λ (t : List Event). stateOf (run fresh t .machine)) e, i .said-is ∙ ap (λ (t : List Event). run fresh t .reply) e)
 
 -- CUT: joined replies and final state depend on the history alone
 pub cut : (h : List Event) {y y′ : State} {said said′ : List ℕ} → Calls (stateOf fresh) h [] y said → Calls (stateOf fresh) h [] y′ said′ → (y ≡ y′) × (said ≡ said′)
 cut h a b =
-    let p = whole h (handed a fresh fresh-legal refl) in
-    let q = whole h (handed b fresh fresh-legal refl) in
+    let p = whole-run h (handed a fresh fresh-legal refl) in
+    let q = whole-run h (handed b fresh fresh-legal refl) in
     (p .0 ∙ sym (q .0), p .1 ∙ sym (q .1))
 
 -- NEVER REFUSED: after any calls from a fresh device, a call with room of 64 is not refused

@@ -8,3 +8,4 @@ pub mod Calls
 pub mod Reading
 pub mod Claims
 pub mod Samples
+pub mod WorkedLoads

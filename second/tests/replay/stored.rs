@@ -156,20 +156,23 @@ fn its_last_state() {
     assert_eq!(lines.len(), 107);
 }
 
-/// Records of three loads, those for network 2 behind what stayed, and nothing of
-/// the one for network 3 that could not be closed.
+/// Records of four loads, those for network 2 behind what stayed and the worked one
+/// for network 1 behind all; and nothing of the one for network 3 that could not be
+/// closed, nor of the one for network 1 that was torn.
 #[test]
 fn its_last_tables() {
     let lines = last_lines();
-    let stayed = ["040101  ", "040303  ", "040301  "].map(|start| format!("{start:x<40}"));
+    let stayed = format!("{:x<40}", "040303  ");
     let new = "011102  xxx011102 !xxx011102 \"xxx".to_string();
-    let last = format!("{:x<997}", "997299  ");
-    let live = hex::written([stayed.concat(), new, last].concat().as_bytes());
-    assert_eq!(lines[3], "live 1150 7");
+    let longest = format!("{:x<997}", "997299  ");
+    let worked = "008101AB".to_string();
+    let live = hex::written([stayed, new, longest, worked].concat().as_bytes());
+    assert_eq!(lines[3], "live 1078 6");
     assert_eq!(lines[4], format!("live-bytes {live}"));
     for network in 0..100 {
         let version = match network {
             0 => "30303030303030303030",
+            1 => "56455253494F4E303031",
             2 | 99 => "207E207E207E207E207E",
             _ => "54414256455230303038",
         };

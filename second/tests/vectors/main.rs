@@ -1,6 +1,7 @@
 //! Every entry of the vectors files against the second program.
 
 mod device;
+mod loads;
 mod messages;
 mod objects;
 mod packets;

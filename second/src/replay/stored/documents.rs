@@ -1,10 +1,7 @@
 //! The documents' own examples, as a device gets them.
 
 use super::Calls;
-use crate::vectors::{Entry, Vectors};
-
-/// Who sends what a device gets.
-const HOST: &str = "SPE";
+use crate::vectors::{Entry, Vectors, HOST};
 
 /// The documents' table load: opened, the records of both parts, closed.
 const LOAD: [&str; 4] = ["V-000-2780", "V-000-2814", "V-000-2828", "V-000-2910"];

@@ -1,16 +1,19 @@
 //! The end of the stored script: a state with something in every place.
 
-use super::{records, Calls, A, B, RECORD};
+use super::{records, worked, Calls, A, B, RECORD};
 use crate::device::NAK;
 use crate::material::command::{tli, tlr};
 use crate::material::table::{block_of, record_of};
 use crate::packet::LARGEST_PAYLOAD;
 use crate::stored::counting;
+use crate::vectors::Vectors;
 
-pub fn case(calls: &mut Calls) {
+pub fn case(calls: &mut Calls, vectors: &Vectors) -> Result<(), String> {
     calls.restart();
     calls.clear();
     live_records_of_several_loads(calls);
+    // Its old record and old name are seen in the last state; TLI drops what is open.
+    worked::torn(calls, vectors)?;
     // A payload longer than any after it: its end stays in the reception store,
     // though the packet is spoiled.
     calls.send(&counting(LARGEST_PAYLOAD + 1));
@@ -20,6 +23,7 @@ pub fn case(calls: &mut Calls) {
     // that it must not be made.
     calls.piece(b"\x16GTS\x13-00207\x17\xC1");
     calls.script.extend(b"B\x00\x02\xFC");
+    Ok(())
 }
 
 /// One network's records give way to new ones, behind those that stay; one load

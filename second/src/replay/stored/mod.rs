@@ -1,6 +1,7 @@
-//! The stored replay script: cases picked by hand for each rule of the scope
-//! paper, sections Reception and Commands, the documents' own examples, random histories, and an end in
-//! the middle of an open load and of a packet. It is the same in every run.
+//! The stored replay script: the worked loads, cases picked by hand for each rule of
+//! the scope paper, sections Reception and Commands, the documents' own examples,
+//! random histories, and an end in the middle of an open load and of a packet. It is
+//! the same in every run.
 
 mod commands;
 mod documents;
@@ -9,6 +10,7 @@ mod events;
 mod limits;
 mod line;
 mod loads;
+mod worked;
 
 use super::Calls;
 use crate::material::command::{tli, tlr};
@@ -34,6 +36,7 @@ const SEED: u64 = 1;
 
 pub fn script(vectors: &Vectors) -> Result<Vec<u8>, String> {
     let mut calls = Calls::default();
+    worked::cases(&mut calls, vectors)?;
     line::cases(&mut calls);
     commands::cases(&mut calls);
     loads::cases(&mut calls);
@@ -41,7 +44,7 @@ pub fn script(vectors: &Vectors) -> Result<Vec<u8>, String> {
     events::cases(&mut calls);
     documents::cases(&mut calls, vectors)?;
     at_random(&mut calls);
-    end::case(&mut calls);
+    end::case(&mut calls, vectors)?;
     Ok(calls.script)
 }
 

@@ -187,7 +187,7 @@ fn judge(body: &[u8]) -> Body
     ensures { λ r. ⌜ r ≡ bodyOf (unstuff (now (body .entry))) ⌝ }
 {
     let mut n = 0;
-    let mut register = 0;
+    let mut register = 0u16;
     let mut i = 0;
     while i < body.len() {
         let u = symbol_at(body, i);

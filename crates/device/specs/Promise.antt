@@ -6,7 +6,7 @@ use mathlib.Core.List.{List, []}
 use lib.ListN.{length}
 use Rattle.answer.specs.Answers.{over}
 use Rattle.state.specs.State.{State, stateAs}
-use Rattle.state.specs.Sound.{isSized, refusalOf}
+use Rattle.state.specs.Sound.{bothSized, refusalOf}
 use Rattle.device.specs.declared.Received.{Received}
 use Rattle.device.specs.declared.Started.{Started}
 use Rattle.device.specs.Events.{Event}
@@ -50,7 +50,7 @@ Answers x left out r out′ live′ loading′ =
 
 -- starting: a fresh device and zeroed stores. Refusal 2 leaves the stores; the device is the fresh one all the same
 abbrev pub startRefusal : List ℕ → List ℕ → ℕ
-startRefusal live loading = cond (isSized (stateAs (stateOf fresh .device) live loading)) 0 2
+startRefusal live loading = cond (bothSized live loading) 0 2
 
 abbrev pub startedFrom : ℕ → List ℕ → List ℕ → State
 startedFrom zero live loading = stateOf fresh

@@ -1,4 +1,6 @@
 // The boundary to C and Rust: each public call under a name of its own, with the same promise. A slice crosses as a pointer and a length.
+#![tactic(auto)]
+
 ghost use Rattle.std.specs.Prelude.{◌≡◌, not, eqb, length};
 ghost use Rattle.answer.specs.Answers.{Gives};
 ghost use Rattle.crc16.specs.Crc.{check};

@@ -1,4 +1,6 @@
 // What every codec call answers, and the one way in which it writes to the caller's buffer.
+#![tactic(auto)]
+
 pub mod digits;
 
 ghost use Rattle.std.specs.Prelude.{◌≡◌, ◌+◌, ◌≤◌, length};

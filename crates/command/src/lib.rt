@@ -1,4 +1,6 @@
 // Which command a payload is, by its name and layout (scope paper, section Commands).
+#![tactic(auto)]
+
 ghost use Rattle.std.specs.Prelude.{◌≡◌, true, ◌≤◌, ◌<◌, length};
 ghost use Rattle.answer.specs.Digits.{three_at};
 ghost use Rattle.command.specs.Texts.{starts, all_text};

@@ -1,5 +1,7 @@
 // The check of a packet (scope paper, section Packet): a register of 16 bits, from 0, over the payload and then ETB.
 // Each byte's highest bit meets the register first; each bit costs one shift to the left, a mask and an exclusive or.
+#![tactic(auto)]
+
 ghost use Rattle.std.specs.Prelude.{◌≡◌, false, ◌∷◌, []};
 ghost use Rattle.crc16.specs.Crc.{bits, bits_of, check};
 ghost use Rattle.crc16.specs.Register.{fed, stepped};

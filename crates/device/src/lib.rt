@@ -1,4 +1,6 @@
 // The device end of the line (scope paper, sections Reception, Commands and Numbered refusals of calls).
+#![tactic(auto)]
+
 mod replying;
 
 ghost use Rattle.std.specs.Prelude.{◌≡◌, true, [], ◌≤◌, length};

@@ -1,4 +1,6 @@
 // What a payload does to the tables, the versions and the open load, and what it is answered (scope paper, section Commands).
+#![tactic(auto)]
+
 mod judging;
 mod loading;
 mod responding;

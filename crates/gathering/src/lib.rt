@@ -1,4 +1,6 @@
 // Bytes up to one that is answered: they move the line and fill the reception store (scope paper, section Reception). Nothing is answered in here.
+#![tactic(auto)]
+
 ghost use Rattle.std.specs.Prelude.{◌≡◌, true};
 ghost use Rattle.gathering.specs.Gathering.{asks_in, placed_in, gathered, Gathers};
 

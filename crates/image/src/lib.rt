@@ -1,4 +1,6 @@
 // The device's state for callers that are not written in Rattle: an image without enum and flags, and the device's calls on it.
+#![tactic(auto)]
+
 mod converting;
 
 ghost use Rattle.std.specs.Prelude.{◌≡◌};

@@ -1,4 +1,6 @@
 // A fresh device between standard input and standard output: it reads bytes as they come, and writes its replies and nothing else.
+#![tactic(auto)]
+
 ghost use Rattle.std.specs.Prelude.{◌≡◌, ◌+◌, ◌≤◌, length};
 
 use device::{Device, Received, receive};

@@ -1,4 +1,6 @@
 // Messages of a head and blocks that hold a parameter list (scope paper, section Blocks and parameters).
+#![tactic(auto)]
+
 mod block;
 mod fill;
 mod head;

@@ -1,4 +1,6 @@
 // EMV data objects: one read, and one written (scope paper, section Data objects).
+#![tactic(auto)]
+
 mod forms;
 pub mod tags;
 

@@ -1,4 +1,6 @@
 // The packet of a payload, written and read (scope paper, section Packet).
+#![tactic(auto)]
+
 ghost use Rattle.std.specs.Prelude.{◌≡◌, ◌+◌, ◌/◌, ◌%◌, ◌≤◌, ◌<◌, ◌∷◌, [], length, drop};
 ghost use Rattle.answer.specs.Answers.{Gives, over};
 ghost use Rattle.answer.specs.Laid.{pasted, Puts};

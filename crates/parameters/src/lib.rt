@@ -1,4 +1,6 @@
 // Parameter lists: walked, judged and searched (scope paper, section Blocks and parameters).
+#![tactic(auto)]
+
 mod parameter;
 mod search;
 

@@ -1,4 +1,6 @@
 // EMV data objects picked from a list by a list of tags (scope paper, section Data objects).
+#![tactic(auto)]
+
 mod compared;
 mod faults;
 mod walk;

@@ -1,11 +1,13 @@
 // How bytes of the line come together to packets (scope paper, section Reception): one byte at a time, with no store. The payload bytes go where
 // the caller keeps them; commands and replies are the caller's too.
+#![tactic(auto)]
+
 ghost use Rattle.std.specs.Prelude.{◌≡◌};
 ghost use Rattle.reception.specs.Cases.{answer_of};
 ghost use Rattle.reception.specs.Reception.{idle, started, spoiled_in, going_on, placed, from_idle, from_data, from13h, completed, taken};
 
 // The five reception states.
-#[derive(Drop)]
+#[derive(Clone, Copy)]
 pub enum Reception {
     Idle,
     InData,
@@ -15,7 +17,7 @@ pub enum Reception {
 }
 
 // Where the reception is: its state, whether the packet is spoiled, and how many of its payload bytes have a place.
-#[derive(Drop)]
+#[derive(Clone, Copy)]
 pub struct Line {
     pub state: Reception,
     pub spoiled: bool,
@@ -23,7 +25,7 @@ pub struct Line {
 }
 
 // What a byte was.
-#[derive(Drop)]
+#[derive(Clone, Copy)]
 pub enum Told {
     // Nothing that the caller has to keep.
     Nothing,
@@ -34,7 +36,7 @@ pub enum Told {
 }
 
 // The reception after a byte, and what the byte was.
-#[derive(Drop)]
+#[derive(Clone, Copy)]
 pub struct Took {
     pub line: Line,
     pub told: Told,

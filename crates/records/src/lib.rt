@@ -1,5 +1,7 @@
 // Table records: where one stands and what it is, and whether bytes are records as a whole, in a block or in a store (scope paper, section Commands).
 // There is no open load, no command and no device in here.
+#![tactic(auto)]
+
 mod checking;
 mod record;
 

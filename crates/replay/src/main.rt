@@ -7,6 +7,8 @@
 //     R               a restart
 // and its line in the log is `B REFUSAL TAKEN REPLY`, `T REFUSAL` or `R REFUSAL`, REPLY in upper-case hexadecimal or `-` where it is empty. A byte
 // that begins no call, or a script that breaks off, is logged as `bad script` and ends the calls.
+#![tactic(auto)]
+
 mod calls;
 mod log;
 mod showing;

@@ -15,6 +15,8 @@
 // each field. The log line of a call is `REFUSAL LENGTH OUT`, where OUT is the whole buffer afterwards, in the form of HEX; for F it is the part
 // that was handed back, and for O the line is `REFUSAL TAG HEADER WHOLE`. Any other line is logged as `bad line`. A last line counts with or without
 // its line end, and is logged with one.
+#![tactic(auto)]
+
 mod calls;
 mod fields;
 mod log;

@@ -1,4 +1,6 @@
 // What a device holds between calls, and the rules by which a call is refused (scope paper, sections Reception and Numbered refusals of calls).
+#![tactic(auto)]
+
 mod refusing;
 
 ghost use Rattle.std.specs.Prelude.{◌≡◌, []};

@@ -1,5 +1,7 @@
 // A load of table records: adding a block to it, closing it, and the versions that it leaves (scope paper, section Commands).
 // There is no command, no packet and no device in here.
+#![tactic(auto)]
+
 mod adding;
 mod closing;
 mod version;

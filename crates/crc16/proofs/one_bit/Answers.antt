@@ -12,8 +12,7 @@ use Rattle.crc16.proofs.Sums.{xor_false}
 use Rattle.crc16.proofs.Division.{low}
 use Rattle.crc16.proofs.Register.{shift, shift_length, fed_nil, fed_cons}
 use Rattle.crc16.proofs.Bits.{bits_length, bits_mod, bits_shl, bits_xor}
-use Rattle.crc16.proofs.one_bit.Statement.{statement}
-use Rattle.crc16.proofs.one_bit.Tie as tie
+use Rattle.crc16.proofs.one_bit.Goals as goal
 
 -- `reg & 0x8000` is 0 or not, and so is the highest bit
 set : (y : ℕ) → y < 2 → (y * 0x8000 ≡ 0 → ⊥) → eqb y 1 ≡ true
@@ -53,15 +52,12 @@ subtracted : (reg : ℕ) → bits 16 (bit_xor (bit_and reg 0x7fff * 2 % 2 ^ 16) 
 unfolding bits odd generator zeros
 subtracted reg = bits_xor 16 (bit_and reg 0x7fff * 2 % 2 ^ 16) 0x1021 ∙ ap (λ (l : List Bool). l ⊕ low) (shifted reg)
 
-returns : tie.Need-returns
-returns c =
-    let reg = c.before.args.register in
-    subtracted reg ∙ sym (division reg true (top_set reg c.if1.true))
+pub returns-then-register-ne0 : goal.returns-then-register-ne0
+returns-then-register-ne0 c =
+    let reg = c.args.register in
+    subtracted reg ∙ sym (division reg true (top_set reg c.if-register-ne0.true))
 
-returns-2 : tie.Need-returns-2
-returns-2 c =
-    let reg = c.before.args.register in
-    shifted reg ∙ sym (division reg false (top-clear reg c.if1.false))
-
-pub one-bit-spec : {M : Type 1} → statement M
-one-bit-spec = tie.close (tie.spec returns returns-2)
+pub returns-else-register-ne0 : goal.returns-else-register-ne0
+returns-else-register-ne0 c =
+    let reg = c.args.register in
+    shifted reg ∙ sym (division reg false (top-clear reg c.if-register-ne0.false))

@@ -1,9 +1,9 @@
 -- `crc16::one_byte` meets its contract. The loop's invariant: the register, fed with a zero for each turn left, gives what `reg` gives with the byte.
 -- The measure is the number of turns that are left.
-use mathlib.Core.Path.{◌≡◌, refl, sym, ap, ap₂, ◌∙◌}
+use mathlib.Core.Path.{◌≡◌, sym, ap, ap₂, ◌∙◌}
 use mathlib.Core.Bool.{Bool, false}
 use mathlib.Core.List.{List, [], ◌∷◌, ◌++◌, append-nil, append_assoc}
-use Prim.Native.Nat.{ℕ, zero, suc, ◌+◌, ◌-◌, ◌*◌, ◌%◌, ◌^◌, ◌≤◌, ◌<◌}
+use Prim.Native.Nat.{ℕ, zero, suc, ◌+◌, ◌-◌, ◌*◌, ◌%◌, ◌^◌, ◌<◌}
 use native.Mathlib.Nat.{add-zero, add-suc, mul-one, mul_assoc, pow-suc}
 use native.Mathlib.Numerals.{add-one}
 use native.Mathlib.Omega.{arith}
@@ -15,14 +15,7 @@ use Rattle.crc16.specs.Register.{fed}
 use Rattle.crc16.proofs.Sums.{sum_assoc, sum_length, sum_zeros}
 use Rattle.crc16.proofs.Bits.{bits_length, bits_mod, bits_shl, bits_xor}
 use Rattle.crc16.proofs.Register.{fed_nil, fed_append, spread, at_once}
-use Rattle.crc16.proofs.one_byte.Statement.{statement}
-use Rattle.crc16.proofs.one_byte.Tie as tie
-
-abbrev invariant-loop : tie.invariant-loop
-invariant-loop reg byte r₀ k₀ r k = (k ≤ 8) × (fed (bits 16 reg) (bits 8 byte) ≡ fed (bits 16 r) (zeros (8 - k)))
-
-abbrev decreases-loop : tie.decreases-loop
-decreases-loop reg byte r₀ k₀ r k = 8 - k
+use Rattle.crc16.proofs.one_byte.Goals as goal
 
 -- a shift to the left by k
 shl : (k n x : ℕ) → bits (n + k) (x * 2 ^ k) ≡ bits n x ++ zeros k
@@ -57,29 +50,17 @@ next r s k h e =
     ∙ fed_append (false ∷ []) (zeros (8 - (k + 1))) (bits 16 r) (bits_length 16 r)
     ∙ ap (λ (l : List Bool). fed l (zeros (8 - (k + 1)))) (sym e)
 
-loop-holds : tie.Need-loop-init invariant-loop decreases-loop
-loop-holds c = (search rules, start c.args.register c.args.byte)
+pub loop-k-init : goal.loop-k-init
+loop-k-init c = (search rules, start c.args.register c.args.byte)
 
-one-bit-requires : tie.Need-one-bit-requires invariant-loop decreases-loop
-one-bit-requires c κs = search rules
+pub loop-k-preserved : goal.loop-k-preserved
+loop-k-preserved c =
+    let l = c.loop-k in
+    (search rules, l.invariant.1 ∙ next l.r c.one_bit-r.result l.k (search rules) c.one_bit-r.ensures)
 
-add-k : tie.Need-overflow-add-k invariant-loop decreases-loop
-add-k c = search rules
-
-loop-less : tie.Need-loop-smaller invariant-loop decreases-loop
-loop-less c = search rules
-
-loop-again : tie.Need-loop-preserved invariant-loop decreases-loop
-loop-again c =
-    let l = c.before.before.loop in
-    (search rules, l.invariant.1 ∙ next l.r c.one_bit.result l.k (search rules) c.one_bit.ensures)
-
-returns : tie.Need-returns invariant-loop decreases-loop
+pub returns : goal.returns
 unfolding zeros
 returns c =
-    let l = c.before.loop in
+    let l = c.loop-k in
     let z : 8 - l.k ≡ 0 = omega arith in
     sym (l.invariant.1 ∙ ap (λ (n : ℕ). fed (bits 16 l.r) (zeros n)) z ∙ fed_nil (bits 16 l.r) (bits_length 16 l.r))
-
-pub one-byte-spec : {M : Type 1} → statement M
-one-byte-spec = tie.close (tie.spec invariant-loop decreases-loop loop-holds one-bit-requires add-k loop-less loop-again returns)

@@ -1,5 +1,5 @@
 -- `crc16::check_of` meets its contract: the register, from 0, fed with the payload and 17h, is the remainder.
-use mathlib.Core.Path.{◌≡◌, refl, sym, ap, ◌∙◌}
+use mathlib.Core.Path.{◌≡◌, sym, ap, ◌∙◌}
 use mathlib.Core.List.{List, [], ◌∷◌, ◌++◌, append-nil}
 use mathlib.Core.Bool.{Bool}
 use Prim.Native.Nat.{ℕ, ◌%◌, ◌^◌, ◌<◌}
@@ -10,8 +10,7 @@ use Rattle.crc16.specs.Register.{fed}
 use Rattle.crc16.proofs.Register.{fed_append, fed_zeros}
 use Rattle.crc16.proofs.Bits.{bits_length, number_bits}
 use Rattle.crc16.proofs.Steps.{bits_of_append}
-use Rattle.crc16.proofs.check_of.Statement.{statement}
-use Rattle.crc16.proofs.check_of.Tie as tie
+use Rattle.crc16.proofs.check_of.Goals as goal
 
 -- the register after the payload and after 17h
 law : (payload : List ℕ) (r s : ℕ) → s < 2 ^ 16 → bits 16 r ≡ fed (bits 16 0) (bits_of payload) → bits 16 s ≡ fed (bits 16 r) (bits 8 0x17) → s ≡ check payload
@@ -25,14 +24,5 @@ law payload r s h e f =
     (f ∙ ap (λ (l : List Bool). fed l (bits 8 0x17)) e ∙ sym (fed_append (bits_of payload) (bits 8 0x17) (bits 16 0) (bits_length 16 0))
     ∙ ap (fed (bits 16 0)) m ∙ fed_zeros (bits_of (payload ++ (0x17 ∷ []))))
 
-all-bytes-requires : tie.Need-all-bytes-requires
-all-bytes-requires c κs = search rules
-
-one-byte-requires : tie.Need-one-byte-requires
-one-byte-requires c κs = search rules
-
-returns : tie.Need-returns
-returns c = law c.before.before.before.args.payload.now c.before.all-bytes.result c.one_byte.result (search rules) c.before.all-bytes.ensures c.one_byte.ensures
-
-pub check-of-spec : {M : Type 1} → statement M
-check-of-spec = tie.close (tie.spec all-bytes-requires one-byte-requires returns)
+pub returns : goal.returns
+returns c = law c.args.payload.now c.all_bytes-text.result c.one_byte-ended.result (search rules) c.all_bytes-text.ensures c.one_byte-ended.ensures

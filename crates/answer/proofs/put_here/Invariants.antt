@@ -1,0 +1,10 @@
+-- After i turns the first i bytes of s stand at `at`.
+use Rattle.std.proofs.Common.{length, ◌-◌, ◌≡◌, ◌≤◌}
+use lib.Seq.{paste}
+use Rattle.answer.proofs.put_here.Given as goal
+
+abbrev pub invariant-loop-i : goal.invariant-loop-i
+invariant-loop-i l = (l.i ≤ length l.s) × (l.out ≡ paste l.fn.out l.at l.s l.i)
+
+abbrev pub decreases-loop-i : goal.decreases-loop-i
+decreases-loop-i l = length l.s - l.i

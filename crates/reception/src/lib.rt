@@ -125,6 +125,7 @@ fn from_idle(line: Line, b: u8) -> Took
 }
 
 // A byte in the data, outside a pair.
+#[tactic(auto, unfolding(crate::specs::Reception::from_data))]
 fn from_data(line: Line, b: u8) -> Took
     ensures { result ≡ from_data line b }
 {
@@ -137,6 +138,7 @@ fn from_data(line: Line, b: u8) -> Took
 }
 
 // A byte after 13h.
+#[tactic(auto, unfolding(crate::specs::Reception::from13h))]
 fn from_13h(line: Line, b: u8) -> Took
     ensures { result ≡ from13h line b }
 {
@@ -161,6 +163,7 @@ fn complete(first: u8, second: u8) -> Took
 }
 
 // Takes one byte.
+#[tactic(auto, unfolding(crate::specs::Reception::taken))]
 pub fn take(line: Line, b: u8) -> Took
     ensures { answer_of result ≡ answer_of (taken line b) }
 {

@@ -10,7 +10,7 @@ use answer::digits::{digit_of, is_digit, is_text};
 use records::block_good;
 
 // The command of a payload. A network is that of the command; TLI's version is the ten bytes from place 8 on, and TLR's block all from place 6 on.
-#[derive(Drop)]
+#[derive(Clone, Copy)]
 pub enum Command {
     Opn,
     Gts(u8),

@@ -12,7 +12,7 @@ pub use checking::{block_good, check_store, rest_is_zero};
 pub use record::{is_named, is_taken, record_at};
 
 // A record that stands somewhere: how many bytes it has, its kind and its network. All 0 where none stands there.
-#[derive(Drop)]
+#[derive(Clone, Copy)]
 pub struct Found {
     pub size: usize,
     pub kind: u8,

@@ -11,14 +11,14 @@ pub use closing::close_load;
 pub use version::versions_after;
 
 // How many bytes of a store its records take, and how many they are.
-#[derive(Drop)]
+#[derive(Clone, Copy)]
 pub struct Extent {
     pub used: usize,
     pub records: usize,
 }
 
 // The same of an open load's store, and whether a record did not fit.
-#[derive(Drop)]
+#[derive(Clone, Copy)]
 pub struct Load {
     pub used: usize,
     pub records: usize,
@@ -26,7 +26,7 @@ pub struct Load {
 }
 
 // Whether the new set became the live one, and the live store's extent then.
-#[derive(Drop)]
+#[derive(Clone, Copy)]
 pub struct Closed {
     pub done: bool,
     pub used: usize,

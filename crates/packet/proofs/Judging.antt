@@ -6,18 +6,16 @@ use mathlib.Core.Bool.{Bool, true, false, ◌&&◌, cond, false≢true}
 use mathlib.Core.List.{List, [], ◌∷◌}
 use Prim.Native.Nat.{ℕ, suc, ◌-◌, ◌/◌, ◌%◌, ◌≤◌, ◌<◌}
 use native.Mathlib.Omega.{arith}
-use native.Mathlib.Nat.{sub-zero}
 use lib.ListN.{length, get_or, take, drop}
-use lib.Seq.{take_all, take-take, take_at}
+use lib.Seq.{take_all}
 use lib.Dec.{eqb}
 use borrow.Author.Tests.{eq-eqb, ne_eqb, lt-ltb, le-ltb}
 use Rattle.crc16.specs.Crc.{check}
-use Rattle.answer.specs.Answers.{over}
 use Rattle.answer.specs.Answers.Result.{Good, Refused}
 use Rattle.packet.specs.declared.Body.{Body}
 use Rattle.packet.specs.Substitution.{Unstuffed}
 use Rattle.packet.specs.Substitution.Unstuffed.{clean, spoiled}
-use Rattle.packet.specs.Packet.{packet_of, write_packet, checked, judged, rest_of, read_packet}
+use Rattle.packet.specs.Packet.{packet_of, write_packet, judged, rest_of, read_packet}
 use Rattle.packet.specs.Steps.{payload_in, body_of}
 
 pub write_empty : (p : List ℕ) → length p ≡ 0 → write_packet p ≡ Refused 10

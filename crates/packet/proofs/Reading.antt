@@ -1,13 +1,11 @@
 -- Undoing the substitutions, one symbol after another.
 use mathlib.Core.Path.{◌≡◌, refl, sym, ap, ◌∙◌}
-use mathlib.Core.Bool.{Bool, true, false}
 use mathlib.Core.List.{List, [], ◌∷◌, ◌++◌, append-nil}
 use Prim.Native.Nat.{ℕ, suc, ◌+◌, ◌≤◌, ◌<◌}
 use native.Mathlib.Omega.{arith}
-use lib.ListN.{length, get_or, take, drop, set, length-append, length-take, length-drop, length-set, drop_of_length-le}
-use lib.Seq.{drop-drop, drop-cons, take-set-lt, set_out, set_at, take-append-le, take-length, append_snoc}
-use lib.Dec.{ltb}
-use borrow.Author.Tests.{ne_eqb, ltb-true, ltb-false}
+use lib.ListN.{length, get_or, drop, set, length-append, length-drop, drop_of_length-le}
+use lib.Seq.{drop-drop, drop-cons, set_at, append_snoc}
+use borrow.Author.Tests.{ne_eqb}
 use Rattle.answer.specs.Answers.{over}
 use Rattle.crc16.specs.Register.{stepped, register_after}
 use Rattle.crc16.proofs.Steps.{step_none, step_after}

@@ -70,6 +70,7 @@ fn put_pair(out: &mut [u8], at: usize, y: u8) -> usize
 }
 
 // Puts what `b` is sent as at `at`.
+#[tactic(auto, using(answer::proofs::Laid::set_one), unfolding(crate::specs::Substitution::sent))]
 fn put_sent(out: &mut [u8], at: usize, b: u8) -> usize
     requires { at + length (sent b) ≤ length out.old }
     ensures { Puts out.old at (sent b) result out.new }
@@ -144,6 +145,7 @@ pub fn write_packet(payload: &[u8], out: &mut [u8]) -> Answer
 // ---- the reader
 
 // What a pair that ends with `y` stands for.
+#[tactic(auto, unfolding(crate::specs::Steps::pair_of))]
 fn pair(y: u8) -> Symbol
     ensures { result ≡ pair_of y }
 {
@@ -165,6 +167,7 @@ fn pair(y: u8) -> Symbol
 }
 
 // The byte or pair at `i`.
+#[tactic(auto, using(crate::proofs::Symbols::symbol_pair), unfolding(crate::specs::Steps::symbol_of))]
 fn symbol_at(body: &[u8], i: usize) -> Symbol
     requires { i < length body.now }
     ensures { result ≡ symbol_of (drop i body.now) }

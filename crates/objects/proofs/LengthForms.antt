@@ -1,51 +1,15 @@
--- Length forms: by the tests of the code, in their place, and there and back.
+-- Length forms: the one form of a length, in their place, and there and back.
 use mathlib.Core.Path.{◌≡◌, refl}
 use mathlib.Core.Bool.{Bool, true, false, cond}
 use mathlib.Core.List.{List, [], ◌∷◌, ◌++◌}
-use Prim.Native.Nat.{ℕ, zero, suc, ◌+◌, ◌-◌, ◌*◌, ◌/◌, ◌%◌, ◌≤◌, ◌<◌}
+use Prim.Native.Nat.{ℕ, zero, suc, ◌+◌, ◌*◌, ◌/◌, ◌%◌, ◌≤◌, ◌<◌}
 use native.Mathlib.Omega.{arith}
-use lib.ListN.{length, get_or, take, drop}
+use lib.ListN.{length, take}
 use lib.Dec.{ltb, eqb}
 use borrow.Author.Tests.{lt-ltb, le-ltb}
 use native.Mathlib.Nat.{div-add-mod'}
 use Rattle.objects.specs.declared.Form.{Form}
 use Rattle.objects.specs.LengthForm.{form, no_form, form_of, after81, after82, form_at}
-
--- ---- by the tests of the code
-
-pub form_none : (xs : List ℕ) → length xs ≡ 0 → form_at xs ≡ no_form
-unfolding form_at
-form_none [] h = refl
-form_none (a ∷ xs) h = absurd (let z : suc (length xs) ≡ 0 = h in omega arith)
-
-pub form_is : (xs : List ℕ) → (length xs ≡ 0 → ⊥)
-    → form_at xs ≡ cond (ltb (get_or xs 0 0) 0x80) (form 1 (get_or xs 0 0)) (cond (eqb (get_or xs 0 0) 0x81) (after81 (drop 1 xs)) (cond (eqb (get_or xs 0 0) 0x82) (after82 (drop 1 xs)) no_form))
-unfolding form_at
-form_is [] h = absurd (h refl)
-form_is (a ∷ xs) h = refl
-
-pub after81_none : (xs : List ℕ) → length xs ≡ 0 → after81 xs ≡ no_form
-unfolding after81
-after81_none [] h = refl
-after81_none (a ∷ xs) h = absurd (let z : suc (length xs) ≡ 0 = h in omega arith)
-
-pub after81_is : (xs : List ℕ) → (length xs ≡ 0 → ⊥) → after81 xs ≡ cond (ltb (get_or xs 0 0) 0x80) no_form (form 2 (get_or xs 0 0))
-unfolding after81
-after81_is [] h = absurd (h refl)
-after81_is (a ∷ xs) h = refl
-
-pub after82_none : (xs : List ℕ) → length xs < 2 → after82 xs ≡ no_form
-unfolding after82
-after82_none [] h = refl
-after82_none (a ∷ []) h = refl
-after82_none (a ∷ b ∷ xs) h = absurd (let z : suc (suc (length xs)) < 2 = h in omega arith)
-
-pub after82_is : (xs : List ℕ) → 2 ≤ length xs
-    → after82 xs ≡ cond (ltb (get_or xs 0 0 * 256 + get_or xs 1 0) 0x100) no_form (form 3 (get_or xs 0 0 * 256 + get_or xs 1 0))
-unfolding after82
-after82_is [] h = absurd (let z : 2 ≤ 0 = h in omega arith)
-after82_is (a ∷ []) h = absurd (let z : 2 ≤ 1 = h in omega arith)
-after82_is (a ∷ b ∷ xs) h = refl
 
 -- ---- the one form of a length
 

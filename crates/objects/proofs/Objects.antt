@@ -2,16 +2,16 @@
 use mathlib.Core.Path.{◌≡◌, refl, sym, ap, ◌∙◌}
 use mathlib.Core.Bool.{Bool, true, false, cond}
 use mathlib.Core.List.{List, ◌++◌}
-use Prim.Native.Nat.{ℕ, suc, ◌+◌, ◌-◌, ◌≤◌, ◌<◌}
+use Prim.Native.Nat.{ℕ, ◌+◌, ◌-◌, ◌≤◌}
 use native.Mathlib.Omega.{arith}
 use lib.ListN.{length, take, drop, length-append, length-take}
 use lib.Seq.{drop-append-le, take-take}
-use lib.Dec.{leb, eqb, eqb-suc-zero}
-use borrow.Author.Tests.{eq-eqb, ne_eqb, le-leb, lt-leb, leb-true, eqb-true, eqb-false}
+use lib.Dec.{leb, eqb}
+use borrow.Author.Tests.{ne_eqb, le-leb, leb-true, eqb-true, eqb-false}
 use Rattle.objects.specs.declared.Form.{Form}
 use Rattle.objects.specs.Tag.{tag_size}
 use Rattle.objects.specs.LengthForm.{form_of, form_at}
-use Rattle.objects.specs.Object.{Object, object_of, header_size, value_size, object_refusal, object_size, bad_read, read_of, object_in}
+use Rattle.objects.specs.Object.{Object, object_of, header_size, value_size, object_refusal, object_size, read_of, object_in}
 use Rattle.answer.proofs.Parts.{drop_take}
 use Rattle.objects.proofs.TagSizes.{tag_le, tag_append, tag_take}
 use Rattle.objects.proofs.LengthForms.{form_append, form_take}
@@ -19,26 +19,10 @@ use Rattle.objects.proofs.LengthForms.{form_append, form_take}
 -- ---- by the tests of the code
 
 module _ (xs : List ℕ) where
-  pub refusal_30 : tag_size xs ≡ 0 → object_refusal xs ≡ 30
-  unfolding object_refusal
-  refusal_30 h = simp (eq-eqb (tag_size xs) 0 h)
-
-  pub refusal_31 : (tag_size xs ≡ 0 → ⊥) → (form_at (drop (tag_size xs) xs)).size ≡ 0 → object_refusal xs ≡ 31
-  unfolding object_refusal
-  refusal_31 h k = simp (ne_eqb (tag_size xs) 0 h, eq-eqb (form_at (drop (tag_size xs) xs)).size 0 k)
-
   module _ (h : tag_size xs ≡ 0 → ⊥) (k : (form_at (drop (tag_size xs) xs)).size ≡ 0 → ⊥) where
-    pub refusal_32 : length xs < header_size xs + value_size xs → object_refusal xs ≡ 32
-    unfolding object_refusal
-    refusal_32 l = simp (ne_eqb (tag_size xs) 0 h, ne_eqb (form_at (drop (tag_size xs) xs)).size 0 k, lt-leb (header_size xs + value_size xs) (length xs) l)
-
     pub refusal_0 : header_size xs + value_size xs ≤ length xs → object_refusal xs ≡ 0
     unfolding object_refusal
     refusal_0 l = simp (ne_eqb (tag_size xs) 0 h, ne_eqb (form_at (drop (tag_size xs) xs)).size 0 k, le-leb (header_size xs + value_size xs) (length xs) l)
-
-  pub read_bad : (n : ℕ) → object_refusal xs ≡ suc n → read_of xs ≡ bad_read (suc n)
-  unfolding read_of
-  read_bad n e = simp (e, eqb-suc-zero n)
 
   pub read_good : object_refusal xs ≡ 0 → read_of xs ≡ record { refusal = 0; tag = tag_size xs; header = header_size xs; whole = header_size xs + value_size xs }
   unfolding read_of object_size

@@ -1,8 +1,8 @@
--- Reading an object: the code's steps, and the lengths that are read.
+-- Reading an object: the code's last step, and the lengths that are read.
 use mathlib.Core.Path.{◌≡◌, refl, sym, ap, ◌∙◌}
 use mathlib.Core.Bool.{Bool, true, false, cond}
 use mathlib.Core.List.{List}
-use Prim.Native.Nat.{ℕ, suc, ◌+◌, ◌-◌, ◌≤◌, ◌<◌}
+use Prim.Native.Nat.{ℕ, ◌+◌, ◌-◌, ◌≤◌}
 use native.Mathlib.Omega.{arith}
 use lib.ListN.{length, drop, length-drop}
 use lib.Dec.{eqb}
@@ -14,15 +14,9 @@ use Rattle.objects.specs.LengthForm.{form_at}
 use Rattle.objects.specs.Object.{header_size, value_size, object_refusal, object_size, bad_read, read_of}
 use Rattle.objects.proofs.TagSizes.{tag_le}
 use Rattle.objects.proofs.LengthForms.{form_le}
-use Rattle.objects.proofs.Objects.{refusal_30, refusal_31, refusal_32, refusal_0, read_bad, read_good, sound_parts, size_good}
+use Rattle.objects.proofs.Objects.{refusal_0, read_good, sound_parts, size_good}
 
--- ---- the code's steps, from a tag of size t and a form f after it
-
-step_bad : (xs : List ℕ) (n : ℕ) (r : ObjectRead) → object_refusal xs ≡ suc n → r ≡ bad_read (suc n) → r ≡ read_of xs
-step_bad xs n r e q = q ∙ sym (read_bad xs n e)
-
-pub step_30 : (xs : List ℕ) (t : ℕ) (r : ObjectRead) → t ≡ tag_size xs → t ≡ 0 → r ≡ bad_read 30 → r ≡ read_of xs
-step_30 xs t r et h q = step_bad xs 29 r (refusal_30 xs (sym et ∙ h)) q
+-- ---- the code's last step, from a tag of size t and a form f after it
 
 module _ (xs : List ℕ) (t : ℕ) (f : Form) (et : t ≡ tag_size xs) (ef : f ≡ form_at (drop t xs)) (some : t ≡ 0 → ⊥) where
   there : f ≡ form_at (drop (tag_size xs) xs)
@@ -40,16 +34,6 @@ module _ (xs : List ℕ) (t : ℕ) (f : Form) (et : t ≡ tag_size xs) (ef : f �
       let m = form_le (drop t xs) in
       let s = ap (λ (r : Form). r.size) ef in
       omega (arith, simp length-drop at m)
-
-  pub step_31 : (r : ObjectRead) → f.size ≡ 0 → r ≡ bad_read 31 → r ≡ read_of xs
-  step_31 r h q = step_bad xs 30 r (refusal_31 xs (λ z. some (et ∙ z)) (sym size ∙ h)) q
-
-  pub step_32 : (r : ObjectRead) → (f.size ≡ 0 → ⊥) → length xs - (t + f.size) < f.value → r ≡ bad_read 32 → r ≡ read_of xs
-  step_32 r h l q =
-      let s = size in
-      let v = value in
-      let m : length xs < header_size xs + value_size xs = omega arith in
-      step_bad xs 31 r (refusal_32 xs (λ z. some (et ∙ z)) (λ z. h (s ∙ z)) m) q
 
   pub step_good : (f.size ≡ 0 → ⊥) → f.value ≤ length xs - (t + f.size)
       → record { refusal = 0; tag = t; header = t + f.size; whole = t + f.size + f.value } ≡ read_of xs

@@ -1,44 +1,12 @@
--- Tags: their size by the tests of the code, and in its place.
-use mathlib.Core.Path.{◌≡◌, refl, sym, ◌∙◌}
+-- Tags: their size in its place.
+use mathlib.Core.Path.{◌≡◌, refl}
 use mathlib.Core.Bool.{Bool, true, false, cond}
 use mathlib.Core.List.{List, [], ◌∷◌, ◌++◌}
-use Prim.Native.Nat.{ℕ, zero, suc, ◌+◌, ◌-◌, ◌%◌, ◌≤◌}
+use Prim.Native.Nat.{ℕ, zero, suc, ◌≤◌}
 use native.Mathlib.Omega.{arith}
-use lib.ListN.{length, get_or, take, drop}
+use lib.ListN.{length, take}
 use lib.Dec.{ltb}
-use lib.Bits.{bit_and, and_mask}
-use borrow.Author.Tests.{eq-eqb, ne_eqb}
 use Rattle.objects.specs.Tag.{bad_first, calls_for_more, size_of_two, tag_size}
-
--- ---- by the tests of the code
-
-pub tag_none : (xs : List ℕ) → length xs ≡ 0 → tag_size xs ≡ 0
-unfolding tag_size
-tag_none [] h = refl
-tag_none (a ∷ xs) h = absurd (let z : suc (length xs) ≡ 0 = h in omega arith)
-
-pub tag_is : (xs : List ℕ) → (length xs ≡ 0 → ⊥) → tag_size xs ≡ cond (bad_first (get_or xs 0 0)) 0 (cond (calls_for_more (get_or xs 0 0)) (size_of_two (drop 1 xs)) 1)
-unfolding tag_size
-tag_is [] h = absurd (h refl)
-tag_is (a ∷ xs) h = refl
-
-pub two_none : (xs : List ℕ) → length xs ≤ 1 → size_of_two (drop 1 xs) ≡ 0
-unfolding size_of_two
-two_none [] h = refl
-two_none (a ∷ []) h = refl
-two_none (a ∷ b ∷ xs) h = absurd (let z : suc (suc (length xs)) ≤ 1 = h in omega arith)
-
-pub two_is : (xs : List ℕ) → (length xs ≡ 0 → ⊥) → (length xs ≡ 1 → ⊥) → size_of_two (drop 1 xs) ≡ cond (ltb (get_or xs 1 0) 0x80) 2 0
-unfolding size_of_two
-two_is [] h k = absurd (h refl)
-two_is (a ∷ []) h k = absurd (k refl)
-two_is (a ∷ b ∷ xs) h k = refl
-
-pub more_yes : (a : ℕ) → bit_and a 31 ≡ 31 → calls_for_more a ≡ true
-more_yes a h = eq-eqb (a % 32) 31 (sym (and_mask a 5) ∙ h)
-
-pub more_no : (a : ℕ) → (bit_and a 31 ≡ 31 → ⊥) → calls_for_more a ≡ false
-more_no a h = ne_eqb (a % 32) 31 (λ e. h (and_mask a 5 ∙ e))
 
 -- ---- a tag in its place
 

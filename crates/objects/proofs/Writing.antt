@@ -1,12 +1,12 @@
 -- Writing an object: its three parts put next to one another, and the writer by its tests.
 use mathlib.Core.Path.{◌≡◌, ap, ◌∙◌}
-use mathlib.Core.Bool.{true, false}
+use mathlib.Core.Bool.{true}
 use mathlib.Core.List.{List, ◌++◌, append_assoc}
-use Prim.Native.Nat.{ℕ, ◌+◌, ◌≤◌, ◌<◌}
+use Prim.Native.Nat.{ℕ, ◌+◌, ◌≤◌}
 use native.Mathlib.Omega.{arith}
 use lib.ListN.{length, length-append}
-use borrow.Author.Tests.{le-leb, lt-leb}
-use Rattle.answer.specs.Answers.Result.{Good, Refused}
+use borrow.Author.Tests.{le-leb}
+use Rattle.answer.specs.Answers.Result.{Good}
 use Rattle.answer.specs.Laid.{pasted, Puts, PutIf}
 use Rattle.answer.proofs.Laid.{put_fits, pasted_length}
 use Rattle.objects.specs.Tag.{is_tag}
@@ -45,14 +45,6 @@ puts_object out at tag value p o₁ q o₂ r o₃ room a b c =
 -- ---- the writer, by its tests
 
 module _ (tag value : List ℕ) where
-  pub write_30 : is_tag tag ≡ false → write_object tag value ≡ Refused 30
-  unfolding write_object
-  write_30 e = simp e
-
-  pub write_33 : is_tag tag ≡ true → 65535 < length value → write_object tag value ≡ Refused 33
-  unfolding write_object
-  write_33 e h = simp (e, lt-leb (length value) 65535 h)
-
   pub write_good : is_tag tag ≡ true → length value ≤ 65535 → write_object tag value ≡ Good (object_of tag value)
   unfolding write_object
   write_good e h = simp (e, le-leb (length value) 65535 h)

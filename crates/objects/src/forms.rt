@@ -6,6 +6,7 @@ ghost use Rattle.objects.specs.LengthForm.{form_at, after81, after82, form_of};
 use crate::Form;
 
 // The form that starts with 81h, by what stands after that byte.
+#[tactic(auto, unfolding(crate::specs::LengthForm::after81))]
 fn after_81(p: &[u8]) -> Form
     ensures { result ≡ after81 p.now }
 {
@@ -23,6 +24,7 @@ fn after_81(p: &[u8]) -> Form
 }
 
 // The form that starts with 82h, by what stands after that byte.
+#[tactic(auto, unfolding(crate::specs::LengthForm::after82))]
 fn after_82(p: &[u8]) -> Form
     ensures { result ≡ after82 p.now }
 {
@@ -37,6 +39,7 @@ fn after_82(p: &[u8]) -> Form
 }
 
 // The length form that `p` starts with.
+#[tactic(auto, unfolding(crate::specs::LengthForm::form_at))]
 pub(crate) fn form_at(p: &[u8]) -> Form
     ensures { result ≡ form_at p.now }
 {
@@ -60,6 +63,7 @@ pub(crate) fn form_at(p: &[u8]) -> Form
 }
 
 // How many bytes the one form of a length has.
+#[tactic(auto, unfolding(crate::specs::LengthForm::form_of))]
 pub(crate) fn form_size(n: usize) -> usize
     ensures { (result ≡ length (form_of n)) × (result ≤ 3) }
 {
@@ -73,6 +77,7 @@ pub(crate) fn form_size(n: usize) -> usize
 }
 
 // Puts the form of the length `n` at `at`.
+#[tactic(auto, unfolding(crate::specs::LengthForm::form_of))]
 pub(crate) fn put_form(out: &mut [u8], at: usize, n: usize) -> usize
     requires { n ≤ 65535 }
     ensures { PutIf out.old at (form_of n) result out.new }

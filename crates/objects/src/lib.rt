@@ -42,6 +42,7 @@ fn no_object(number: u8) -> ObjectRead
 }
 
 // Reads the one object at the start of `input`; what follows it does not matter. Refusals in this order: 30, 31, 32.
+#[tactic(auto, using(crate::proofs::TagSizes::tag_le, crate::proofs::LengthForms::form_le), unfolding(crate::specs::Object::read_of, crate::specs::Object::object_refusal, crate::specs::Object::object_size))]
 pub fn read_object(input: &[u8]) -> ObjectRead
     ensures { result ≡ read_of input.now }
 {
@@ -68,6 +69,7 @@ pub fn read_object(input: &[u8]) -> ObjectRead
 }
 
 // How many bytes the object of this tag and value has.
+#[tactic(auto, using(crate::proofs::Objects::object_length))]
 fn object_size(tag: &[u8], value: &[u8]) -> usize
     requires { length value.now ≤ 65535 }
     ensures { result ≡ length (object_of tag.now value.now) }
@@ -87,6 +89,7 @@ fn put_object(out: &mut [u8], at: usize, tag: &[u8], value: &[u8]) -> usize
 }
 
 // Writes the object of this tag and value to the start of `out`. Refusals in this order: 30, 33, 1.
+#[tactic(auto, using(crate::proofs::Objects::object_length), unfolding(crate::specs::Object::write_object))]
 pub fn write_object(tag: &[u8], value: &[u8], out: &mut [u8]) -> Answer
     ensures { Gives (write_object tag.now value.now) out.old result out.new }
 {

@@ -3,6 +3,7 @@ ghost use Rattle.std.specs.Prelude.{◌≡◌};
 ghost use Rattle.objects.specs.Tag.{tag_size, is_tag};
 
 // The size of the tag that `p` starts with, 0 where it starts with none. A first byte whose low five bits are set calls for a second.
+#[tactic(auto, unfolding(crate::specs::Tag::tag_size, crate::specs::Tag::size_of_two))]
 pub fn tag_size(p: &[u8]) -> usize
     ensures { result ≡ tag_size p.now }
 {

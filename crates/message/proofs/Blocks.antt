@@ -2,12 +2,12 @@
 use mathlib.Core.Path.{◌≡◌, refl, sym, ap, ap₂, ◌∙◌}
 use mathlib.Core.Bool.{Bool, true, false, ◌&&◌, cond}
 use mathlib.Core.List.{List, [], ◌∷◌, ◌++◌, map, flatten}
-use Prim.Native.Nat.{ℕ, ◌+◌, ◌-◌, ◌*◌, ◌/◌, ◌%◌, ◌≤◌, ◌<◌}
+use Prim.Native.Nat.{ℕ, ◌+◌, ◌-◌, ◌*◌, ◌/◌, ◌%◌, ◌≤◌}
 use native.Mathlib.Omega.{arith}
 use lib.ListN.{length, get_or, take, drop, length-append, length-take, length-drop, get_or-append}
 use lib.Seq.{length-take-le, get_or-take}
 use lib.Dec.{leb}
-use borrow.Author.Tests.{le-leb, lt-leb, leb-true}
+use borrow.Author.Tests.{le-leb, leb-true}
 use Rattle.answer.specs.Pieces.{pieces, rest, is_none, whole, every}
 use Rattle.answer.specs.Laid.{PieceAt}
 use Rattle.answer.proofs.Pieces.{Sizes, none_true, piece_more, piece_none, flatten_pieces, pieces_flatten, rest_flatten, all_pieces}
@@ -17,19 +17,11 @@ use Rattle.answer.specs.Claims.{AllPieces}
 use Rattle.message.specs.Blocks.{is_length, block_in, blocks_of, three_of, block_of}
 use Rattle.answer.proofs.Parts.{and_left, and_right, inner_part}
 
--- ---- the size of a block, by the tests that the code makes
+-- ---- the size of a block
 
-module _ (xs : List ℕ) where
-  pub block_short : length xs < 3 → 0 ≡ block_in xs
-  unfolding block_in
-  block_short h = rw (lt-leb 3 (length xs) h) refl
-
-  pub block_by : (n : ℕ) (g t : Bool) → 3 ≤ length xs → n ≡ three_at xs → g ≡ is_length xs → (g && leb (3 + n) (length xs)) ≡ t → cond t (3 + n) 0 ≡ block_in xs
-  unfolding block_in
-  block_by n g t h e f q = rw (← q, e, f, le-leb 3 (length xs) h) refl
-
-  block_good : 3 ≤ length xs → is_length xs ≡ true → 3 + three_at xs ≤ length xs → block_in xs ≡ 3 + three_at xs
-  block_good h g f = sym (block_by (three_at xs) true true h refl (sym g) (le-leb (3 + three_at xs) (length xs) f))
+block_good : (xs : List ℕ) → 3 ≤ length xs → is_length xs ≡ true → 3 + three_at xs ≤ length xs → block_in xs ≡ 3 + three_at xs
+unfolding block_in
+block_good xs h g f = rw (le-leb 3 (length xs) h, g, le-leb (3 + three_at xs) (length xs) f) refl
 
 -- ---- a block is told by its own bytes
 
@@ -253,7 +245,7 @@ module _ (s : List ℕ) (at n : ℕ) (p : PieceAt block_in s at n) where
     held_is : drop 3 (take n (drop at s)) ≡ held
     held_is = sym (inner_part s at 3 n)
 
-    pub held_long : length held ≡ n - 3
+    held_long : length held ≡ n - 3
     held_long = let w = p.within in simp (length-take, length-drop) (omega (arith, three))
 
     pub lists_more : (t : Bool) → t ≡ whole_list held → every whole_list (blocks_of (drop at s)) ≡ (t && every whole_list (blocks_of (drop (at + n) s)))

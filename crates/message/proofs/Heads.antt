@@ -1,30 +1,17 @@
 -- The laws of a message's head, and of the head and the blocks together.
 use mathlib.Core.Path.{◌≡◌, refl, sym, ◌∙◌}
-use mathlib.Core.Bool.{Bool, true, false, ◌&&◌, false≢true}
+use mathlib.Core.Bool.{Bool, true, false, false≢true}
 use mathlib.Core.List.{List}
-use Prim.Native.Nat.{ℕ, ◌-◌, ◌≤◌, ◌<◌}
+use Prim.Native.Nat.{ℕ, ◌≤◌, ◌<◌}
 use native.Mathlib.Omega.{arith}
-use native.Mathlib.Nat.{sub-zero}
-use lib.ListN.{length, take, drop, length-take}
+use lib.ListN.{length, length-take}
 use lib.Dec.{leb, eqb}
-use borrow.Author.Tests.{eq-eqb, ne_eqb, eqb-true, eqb-false, leb-true, leb-false}
-use Rattle.answer.specs.Pieces.{whole}
-use Rattle.message.specs.Blocks.{block_in}
-use Rattle.message.specs.Message.{head_length, names_good, status_good, head_good, head_of, framed}
-use Rattle.answer.proofs.Parts.{and_true, rest_part}
+use borrow.Author.Tests.{ne_eqb, eqb-true, eqb-false, leb-true, leb-false}
+use Rattle.message.specs.Message.{head_length, head_good, head_of, framed}
 
-module _ (head : List ℕ) where
-  pub head_not : (response : Bool) → (length head ≡ head_length response → ⊥) → head_good response head ≡ false
-  unfolding head_good
-  head_not response h = rw (ne_eqb (length head) (head_length response) h) refl
-
-  pub head_response : length head ≡ 6 → head_good true head ≡ (names_good head && status_good head)
-  unfolding head_good
-  head_response h = rw (eq-eqb (length head) 6 h) refl
-
-  pub head_command : length head ≡ 3 → head_good false head ≡ names_good head
-  unfolding head_good
-  head_command h = rw (eq-eqb (length head) 3 h) (and_true (names_good head))
+head_not : (head : List ℕ) (response : Bool) → (length head ≡ head_length response → ⊥) → head_good response head ≡ false
+unfolding head_good
+head_not head response h = rw (ne_eqb (length head) (head_length response) h) refl
 
 -- a good head has its length
 pub head_long : (head : List ℕ) (response : Bool) → head_good response head ≡ true → length head ≡ head_length response
@@ -42,11 +29,8 @@ pub head_six : (head : List ℕ) (response : Bool) → head_good response head �
 head_six head response e = omega (arith, head_long head response e, six response)
 
 module _ (response : Bool) (m : List ℕ) (n : ℕ) (k : n ≡ head_length response) where
-  pub framed_short : length m < n → framed response m ≡ false
+  framed_short : length m < n → framed response m ≡ false
   framed_short h = rw (head_not (head_of response m) response (λ z. omega (arith, simp length-take at z))) refl
-
-  pub framed_is : (a b : Bool) → a ≡ head_good response (take (n - 0) m) → b ≡ whole block_in (take (length m - n) (drop n m)) → (a && b) ≡ framed response m
-  framed_is a b f g = rw (f, g, rest_part m n, sub-zero n, k) refl
 
   pub framed_room : framed response m ≡ true → n ≤ length m
   framed_room e = cases (leb n (length m)) refl

@@ -1,10 +1,10 @@
--- What the reader and the writer come to, by the tests that they make.
+-- What the writer comes to, by the tests that it makes.
 use mathlib.Core.Path.{◌≡◌, refl, sym, ap, ◌∙◌}
 use mathlib.Core.Bool.{Bool, true, false, cond}
 use mathlib.Core.List.{List, ◌++◌, map, flatten}
-use Prim.Native.Nat.{ℕ, ◌+◌, ◌-◌, ◌*◌, ◌≤◌, ◌<◌}
+use Prim.Native.Nat.{ℕ, ◌+◌, ◌*◌, ◌≤◌, ◌<◌}
 use native.Mathlib.Omega.{arith}
-use lib.ListN.{length, take, drop, length-append}
+use lib.ListN.{length, length-append}
 use borrow.Author.Tests.{lt-ltb, le-ltb}
 use Rattle.answer.specs.Answers.{over}
 use Rattle.answer.specs.Answers.Result.{Good, Refused}
@@ -12,33 +12,10 @@ use Rattle.answer.specs.Laid.{pasted, Puts}
 use Rattle.answer.specs.Pieces.{every}
 use Rattle.answer.proofs.Laid.{pasted_start, pasted_join, puts_long}
 use Rattle.parameters.specs.Parameters.{parameters, whole_list}
-use Rattle.message.specs.Blocks.{blocks_of, block_of, fill}
-use Rattle.message.specs.Message.{head_length, head_good, framed, list_read, read_message, message_of, short, message_sized, write_message}
-use Rattle.answer.proofs.Parts.{rest_part}
+use Rattle.message.specs.Blocks.{block_of, fill}
+use Rattle.message.specs.Message.{head_good, message_of, short, message_sized, write_message}
 use Rattle.message.proofs.Blocks.{blocks_long}
 use Rattle.message.proofs.Filling.{flatten_fill, held_whole, held_short}
-
--- ---- the reader
-
-pub read_broken : (body : List ℕ) → every whole_list (blocks_of body) ≡ false → list_read body ≡ Refused 21
-read_broken body e = ap (λ (t : Bool). cond t (Good (flatten (blocks_of body))) (Refused 21)) e
-
-pub read_good : (body : List ℕ) → every whole_list (blocks_of body) ≡ true → list_read body ≡ Good (flatten (blocks_of body))
-read_good body e = ap (λ (t : Bool). cond t (Good (flatten (blocks_of body))) (Refused 21)) e
-
-module _ (response : Bool) (m : List ℕ) where
-  pub message_over : 2048 < length m → read_message response m ≡ Refused 11
-  unfolding read_message
-  message_over h = rw (lt-ltb 2048 (length m) h) refl
-
-  pub message_unframed : length m ≤ 2048 → framed response m ≡ false → read_message response m ≡ Refused 20
-  unfolding read_message
-  message_unframed h e = rw (le-ltb 2048 (length m) h, e) refl
-
-  pub message_framed : (n : ℕ) → n ≡ head_length response → length m ≤ 2048 → framed response m ≡ true
-      → read_message response m ≡ list_read (take (length m - n) (drop n m))
-  unfolding read_message
-  message_framed n k h e = rw (le-ltb 2048 (length m) h, e, rest_part m n, k) refl
 
 -- ---- the writer
 
@@ -49,10 +26,6 @@ pub sized_good : (m : List ℕ) → length m ≤ 2048 → message_sized m ≡ Go
 sized_good m h = rw (le-ltb 2048 (length m) h) refl
 
 module _ (head : List ℕ) (response : Bool) (list : List ℕ) where
-  pub write_headless : head_good response head ≡ false → write_message head response list ≡ Refused 20
-  unfolding write_message
-  write_headless a = rw a refl
-
   write_broken : head_good response head ≡ true → whole_list list ≡ false → write_message head response list ≡ Refused 21
   unfolding write_message
   write_broken a b = rw (a, b) refl

@@ -1,12 +1,11 @@
 -- Bytes put one after another, for the loops that write.
-use mathlib.Core.Path.{◌≡◌, refl, sym, ap, ◌∙◌, subst}
-use mathlib.Core.List.{List, [], ◌∷◌, ◌++◌, append_assoc, append-nil}
+use mathlib.Core.Path.{◌≡◌, sym, ap, ◌∙◌, subst}
+use mathlib.Core.List.{List, [], ◌++◌, append_assoc, append-nil}
 use Prim.Native.Nat.{ℕ, ◌+◌, ◌≤◌}
 use native.Mathlib.Omega.{arith}
-use lib.ListN.{length, set, length-append, length-set}
-use lib.Seq.{paste-zero}
+use lib.ListN.{length, length-append}
 use Rattle.answer.specs.Laid.{pasted, Puts, PutIf}
-use Rattle.answer.proofs.Laid.{pasted_length, pasted_join, put_fits, set_three}
+use Rattle.answer.proofs.Laid.{pasted_length, pasted_join, put_fits}
 
 -- of `all`, put from w₀ on, `left` is still to come
 pub record Putting (all left out₀ : List ℕ) (w₀ : ℕ) (out : List ℕ) (w : ℕ) : Type 0 where
@@ -15,9 +14,6 @@ pub record Putting (all left out₀ : List ℕ) (w₀ : ℕ) (out : List ℕ) (w
   pub place : w ≡ w₀ + length done
   pub bytes : out ≡ pasted out₀ w₀ done
   pub long : length out ≡ length out₀
-
-pub putting_none : (all out : List ℕ) (w : ℕ) → Putting all all out w out w
-putting_none all out w = record { done = []; split = refl; place = omega arith; bytes = paste-zero out w []; long = refl }
 
 pub putting_left : {all left other out₀ : List ℕ} {w₀ : ℕ} {out : List ℕ} {w : ℕ} → left ≡ other → Putting all left out₀ w₀ out w → Putting all other out₀ w₀ out w
 putting_left {all} {left} {other} {out₀} {w₀} {out} {w} e p = subst (λ (l : List ℕ). Putting all l out₀ w₀ out w) e p
@@ -46,19 +42,3 @@ module _ (all left s out₀ : List ℕ) (w₀ : ℕ) (out : List ℕ) (w : ℕ) 
 
   pub putting_fits : (out' : List ℕ) (w' : ℕ) → PutIf out w s w' out' → Putting all left out₀ w₀ out' w'
   putting_fits out' w' u = putting_more out' w' (put_fits out w s w' out' putting_room u)
-
--- three bytes, and others put after them
-module _ (l s : List ℕ) (at a b c : ℕ) (room : at + length (a ∷ b ∷ c ∷ s) ≤ length l) where
-  abbrev begun : List ℕ
-  begun = set (set (set l at a) (at + 1) b) (at + 2) c
-
-  pub three_puts : (r : ℕ) (out : List ℕ) → PutIf begun (at + 3) s r out → Puts l at (a ∷ b ∷ c ∷ s) r out
-  three_puts r out u =
-      let n : length begun ≡ length l = simp length-set in
-      let v = put_fits begun (at + 3) s r out (omega arith) u in
-      record {
-        bytes =
-            v.bytes ∙ ap (λ (x : List ℕ). pasted x (at + 3) s) (set_three l at a b c (omega arith))
-            ∙ pasted_join l at (a ∷ b ∷ c ∷ []) s (omega arith);
-        next = v.next ∙ omega arith;
-      }

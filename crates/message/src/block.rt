@@ -28,6 +28,7 @@ fn is_length(s: &[u8]) -> bool
 }
 
 // The size of the block that `s` starts with, its length's digits included; 0 where it starts with none.
+#[tactic(auto, unfolding(crate::specs::Blocks::block_in))]
 fn block_in(s: &[u8]) -> usize
     ensures { result ≡ block_in s.now }
 {
@@ -62,6 +63,7 @@ pub(crate) fn whole_blocks(body: &[u8]) -> bool
 }
 
 // Whether each block of `body` holds parameters and nothing else.
+#[tactic(auto, using(crate::proofs::Blocks::three))]
 pub(crate) fn whole_lists(body: &[u8]) -> bool
     ensures { result ≡ every whole_list (blocks_of body.now) }
 {
@@ -80,6 +82,7 @@ pub(crate) fn whole_lists(body: &[u8]) -> bool
 }
 
 // How many bytes the blocks of `body` hold together.
+#[tactic(auto, using(crate::proofs::Blocks::three))]
 pub(crate) fn joined_length(body: &[u8]) -> usize
     ensures { result ≡ length (flatten (blocks_of body.now)) }
 {
@@ -97,6 +100,7 @@ pub(crate) fn joined_length(body: &[u8]) -> usize
 }
 
 // Puts what the blocks of `body` hold, joined, over the start of `out`.
+#[tactic(auto, using(crate::proofs::Blocks::three))]
 pub(crate) fn join(body: &[u8], out: &mut [u8])
     requires { length (flatten (blocks_of body.now)) ≤ length out.old }
     ensures { out.new ≡ over (flatten (blocks_of body.now)) out.old }

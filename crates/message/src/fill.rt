@@ -15,6 +15,7 @@ pub(crate) struct Measured {
 }
 
 // Where the block that starts with the parameter at `start` is full, or the list at its end.
+#[tactic(auto, using(parameters::proofs::Parameters::parameter_ends))]
 fn block_end(list: &[u8], start: usize) -> usize
     requires { start ≤ length list.now }
     ensures { EndsAt first_in list.now start result }

@@ -33,6 +33,7 @@ fn status_good(head: &[u8]) -> bool
 }
 
 // Whether `head` is the whole head of a response, or of a command.
+#[tactic(auto, unfolding(crate::specs::Message::head_good))]
 pub(crate) fn head_good(head: &[u8], response: bool) -> bool
     ensures { result ≡ head_good response head.now }
 {

@@ -19,6 +19,7 @@ use parameters::whole_list;
 
 // Joins the blocks of a message to one parameter list at the start of `out`. The caller says whether the message is a response or a
 // command. Refusals in this order: 11, 20, 21, 1.
+#[tactic(auto, unfolding(crate::specs::Message::read_message))]
 pub fn read_message(message: &[u8], response: bool, out: &mut [u8]) -> Answer
     ensures { Gives (read_message response message.now) out.old result out.new }
 {
@@ -33,6 +34,7 @@ pub fn read_message(message: &[u8], response: bool, out: &mut [u8]) -> Answer
 }
 
 // Whether `message` is a head of `n` bytes, and then blocks and nothing else.
+#[tactic(auto, unfolding(crate::specs::Message::head_good))]
 fn is_framed(message: &[u8], response: bool, n: usize) -> bool
     requires { n ≡ head_length response }
     ensures { result ≡ framed response message.now }
@@ -62,6 +64,7 @@ fn read_body(body: &[u8], out: &mut [u8]) -> Answer
 
 // Writes the message of a head and a parameter list to the start of `out`. The caller says whether it is the head of a response or of a
 // command. Refusals in this order: 20, 21, 22, 23, 1.
+#[tactic(auto, unfolding(crate::specs::Message::write_message))]
 pub fn write_message(head: &[u8], response: bool, list: &[u8], out: &mut [u8]) -> Answer
     ensures { Gives (write_message head.now response list.now) out.old result out.new }
 {

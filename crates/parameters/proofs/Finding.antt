@@ -110,23 +110,6 @@ pub placed_as : (list : List ℕ) (found other : Result) (first first' : ℕ) (r
 placed_as list found other first first' r e f p =
     subst (λ (k : ℕ). Placed list other k r) (sym f) (subst (λ (x : Result). Placed list x first r) (sym e) p)
 
-module _ (list : List ℕ) (number n : ℕ) where
-  pub find_whole : whole_list list ≡ true → find list number n ≡ nth n (numbered number (parameters list))
-  unfolding find
-  find_whole e = rw e refl
-
-  pub find_broken : whole_list list ≡ false → find list number n ≡ Refused 21
-  unfolding find
-  find_broken e = rw e refl
-
-  pub start_whole : whole_list list ≡ true → start_of list number n ≡ data_at number n 0 (parameters list)
-  unfolding start_of
-  start_whole e = rw e refl
-
-  pub start_broken : whole_list list ≡ false → start_of list number n ≡ 0
-  unfolding start_of
-  start_broken e = rw e refl
-
 -- ---- what is found stands in the list where its place says
 
 module _ (s : List ℕ) (number : ℕ) (d : List ℕ) where

@@ -2,12 +2,12 @@
 use mathlib.Core.Path.{◌≡◌, refl, sym, ap, ap₂, ◌∙◌}
 use mathlib.Core.Bool.{Bool, true, false, ◌&&◌, cond, false≢true}
 use mathlib.Core.List.{List, [], ◌∷◌, ◌++◌, flatten}
-use Prim.Native.Nat.{ℕ, ◌+◌, ◌≤◌, ◌<◌}
+use Prim.Native.Nat.{ℕ, ◌+◌, ◌≤◌}
 use native.Mathlib.Omega.{arith}
 use lib.ListN.{length, take, drop, length-append, length-drop, get_or-append}
 use lib.Seq.{length-take-le, get_or-take}
 use lib.Dec.{leb}
-use borrow.Author.Tests.{le-leb, lt-leb, leb-true}
+use borrow.Author.Tests.{le-leb, leb-true}
 use Rattle.answer.specs.Pieces.{rest, rest_from, is_none, every}
 use Rattle.answer.specs.Laid.{PieceAt}
 use Rattle.answer.specs.Claims.{AllPieces}
@@ -15,20 +15,11 @@ use Rattle.answer.proofs.Pieces.{Sizes, none_true, within, flatten_pieces, piece
 use Rattle.parameters.specs.Parameters.{two_at, parameter_in, parameters, whole_list}
 use Rattle.answer.proofs.Parts.{and_left, and_right, flatten_append}
 
--- ---- the size of a parameter, by the tests that the code makes
+-- ---- the size of a parameter
 
-module _ (xs : List ℕ) where
-  pub parameter_short : length xs < 4 → 0 ≡ parameter_in xs
-  unfolding parameter_in
-  parameter_short h = rw (lt-leb 4 (length xs) h) refl
-
-  pub parameter_good : 4 ≤ length xs → 4 + two_at xs 2 ≤ length xs → 4 + two_at xs 2 ≡ parameter_in xs
-  unfolding parameter_in
-  parameter_good h k = rw (le-leb 4 (length xs) h, le-leb (4 + two_at xs 2) (length xs) k) refl
-
-  pub parameter_past : 4 ≤ length xs → length xs < 4 + two_at xs 2 → 0 ≡ parameter_in xs
-  unfolding parameter_in
-  parameter_past h k = rw (le-leb 4 (length xs) h, lt-leb (4 + two_at xs 2) (length xs) k) refl
+parameter_good : (xs : List ℕ) → 4 ≤ length xs → 4 + two_at xs 2 ≤ length xs → 4 + two_at xs 2 ≡ parameter_in xs
+unfolding parameter_in
+parameter_good xs h k = rw (le-leb 4 (length xs) h, le-leb (4 + two_at xs 2) (length xs) k) refl
 
 -- ---- a parameter is told by its own bytes
 
@@ -144,6 +135,10 @@ join_whole (b ∷ bs) h = both_whole b (flatten bs) h.0 (join_whole bs h.1)
 -- what `parameter_at` tells of a place in the list
 pub parameter_there : (s : List ℕ) (at n : ℕ) → at ≤ length s → n ≡ parameter_in (drop at s) → PieceAt parameter_in s at n
 parameter_there s at n h e = record { is = e; within = within parameter_in parameter_le s at n e h }
+
+-- it ends within the list
+pub parameter_ends : (s : List ℕ) (at n : ℕ) → at ≤ length s → n ≡ parameter_in (drop at s) → at + n ≤ length s
+parameter_ends s at n h e = within parameter_in parameter_le s at n e h
 
 pub piece_long : (s : List ℕ) (at n : ℕ) → PieceAt parameter_in s at n → length (take n (drop at s)) ≡ n
 piece_long s at n p = let w = p.within in length-take-le n (drop at s) (simp length-drop (omega arith))

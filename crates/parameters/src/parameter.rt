@@ -11,6 +11,7 @@ pub(crate) fn two_at(s: &[u8], at: usize) -> usize
 }
 
 // The size of the parameter that `s` starts with, 0 where it starts with none.
+#[tactic(auto, unfolding(crate::specs::Parameters::parameter_in))]
 fn parameter_in(s: &[u8]) -> usize
     ensures { result ≡ parameter_in s.now }
 {
@@ -22,6 +23,7 @@ fn parameter_in(s: &[u8]) -> usize
 }
 
 // The size of the parameter at `at`, 0 where none stands there, and so past the end of `s`.
+#[tactic(auto, unfolding(crate::specs::Parameters::parameter_in))]
 pub fn parameter_at(s: &[u8], at: usize) -> usize
     ensures { result ≡ parameter_in (drop at s.now) }
 {

@@ -26,6 +26,7 @@ fn no_place(number: u8) -> Place
 }
 
 // The place of the data of the nth parameter of this number, in a list that is whole.
+#[tactic(auto, using(crate::proofs::Parameters::parameter_ends))]
 fn find_nth(list: &[u8], number: usize, n: usize) -> Place
     ensures { Placed list.now (nth n (numbered number (parameters list.now))) (data_at number n 0 (parameters list.now)) result }
 {
@@ -55,6 +56,7 @@ fn find_nth(list: &[u8], number: usize, n: usize) -> Place
 }
 
 // The place of the data of the nth parameter of this number, in any list.
+#[tactic(auto, unfolding(crate::specs::Finding::find, crate::specs::Finding::start_of))]
 pub(crate) fn find_place(list: &[u8], number: u16, n: usize) -> Place
     ensures { Placed list.now (find list.now number n) (start_of list.now number n) result }
 {

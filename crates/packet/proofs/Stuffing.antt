@@ -1,6 +1,6 @@
 -- The laws of a payload with substitutions, part by part.
 use mathlib.Core.Path.{◌≡◌, refl, sym, ap, ◌∙◌}
-use mathlib.Core.Bool.{Bool, true, false, ◌||◌, cond}
+use mathlib.Core.Bool.{Bool, true, false, cond}
 use mathlib.Core.List.{List, [], ◌∷◌, ◌++◌, append_assoc, append-nil}
 use Prim.Native.Nat.{ℕ, suc, ◌+◌, ◌≤◌, ◌<◌}
 use native.Mathlib.Omega.{arith}
@@ -60,14 +60,3 @@ packet_laid p l = over_more (0x16 ∷ stuff p) (ending p) l
 pub stuff_end : (p : List ℕ) (i : ℕ) → length p ≤ i → length (stuff (drop i p)) ≡ 0
 unfolding stuff
 stuff_end p i h = rw (drop_of_length-le p h) refl
-
--- a byte that has a pair is sent as two bytes, any other as one
-pub sent_by : (b : ℕ) (t : Bool) → (eqb b 0x13 || (eqb b 0x16 || eqb b 0x17)) ≡ t → length (sent b) ≡ cond t 2 1
-unfolding sent
-sent_by b t = cases (eqb b 0x13) (eqb b 0x16) (eqb b 0x17) t
-  where
-    cases : (x y z t : Bool) → (x || (y || z)) ≡ t → length (cond x (0x13 ∷ 0x33 ∷ []) (cond y (0x13 ∷ 0x36 ∷ []) (cond z (0x13 ∷ 0x37 ∷ []) (b ∷ [])))) ≡ cond t 2 1
-    cases true y z t e = rw (← e) refl
-    cases false true z t e = rw (← e) refl
-    cases false false true t e = rw (← e) refl
-    cases false false false t e = rw (← e) refl

@@ -35,6 +35,7 @@ struct Stuffed {
 // ---- the writer
 
 // How many bytes `b` is sent as. With no branch between, so that the sum over a payload is taken many bytes at a time.
+#[tactic(auto, unfolding(crate::specs::Substitution::sent))]
 fn sent_length(b: u8) -> usize
     ensures { result ≡ length (sent b) }
 {
@@ -115,6 +116,7 @@ fn put_stuffed(payload: &[u8], out: &mut [u8]) -> Stuffed
 }
 
 // Puts ETB and the two bytes of `c` at `at`.
+#[tactic(auto, using(answer::proofs::Laid::set_three))]
 fn put_ending(out: &mut [u8], at: usize, c: u16)
     requires { at + 3 ≤ length out.old }
     ensures { out.new ≡ pasted out.old at (0x17 ∷ c / 256 ∷ c % 256 ∷ []) }
@@ -215,6 +217,7 @@ fn judge(body: &[u8]) -> Body
 }
 
 // The byte or pair at `i` of a body that was judged: the second byte of each pair is 20h over the payload byte.
+#[tactic(auto, using(crate::proofs::Symbols::again_inside, crate::proofs::Symbols::again_pair, crate::proofs::Symbols::again_plain))]
 fn symbol_again(body: &[u8], i: usize) -> Symbol
     requires { (i < length body.now) × ((symbol_of (drop i body.now)).width ≡ 0 → ⊥) }
     ensures { result ≡ symbol_of (drop i body.now) }
@@ -289,6 +292,7 @@ fn read_body(body: &[u8], a: u8, b: u8, out: &mut [u8]) -> Answer
 }
 
 // Gives the payload of what follows SYN.
+#[tactic(auto, using(answer::proofs::Laws::gives_refused, answer::proofs::Laws::gives_as, crate::proofs::Closing::before_le, crate::proofs::Closing::rest_is, crate::proofs::Closing::rest_not))]
 fn read_rest(rest: &[u8], out: &mut [u8]) -> Answer
     ensures { Gives (rest_of rest.now) out.old result out.new }
 {
@@ -301,6 +305,7 @@ fn read_rest(rest: &[u8], out: &mut [u8]) -> Answer
 }
 
 // Writes the payload of the packet `bytes` to the start of `out`. Refusals in this order: 12, 10, 11, 13, 1.
+#[tactic(auto, using(answer::proofs::Laws::gives_refused, answer::proofs::Laws::gives_as, crate::proofs::Judging::read_empty, crate::proofs::Judging::read_syn, crate::proofs::Judging::read_other))]
 pub fn read_packet(bytes: &[u8], out: &mut [u8]) -> Answer
     ensures { Gives (read_packet bytes.now) out.old result out.new }
 {

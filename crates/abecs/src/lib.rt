@@ -161,7 +161,7 @@ pub extern "C" fn abecs_pick(tags: &[u8], list: &[u8], out: &mut [u8]) -> Answer
 
 // The extent of a load's store, with the flag as a byte.
 #[repr(C)]
-#[derive(Drop)]
+#[derive(Clone, Copy)]
 pub struct LoadOf {
     pub used: usize,
     pub records: usize,
@@ -170,7 +170,7 @@ pub struct LoadOf {
 
 // What closing a load answers, with the flag as a byte.
 #[repr(C)]
-#[derive(Drop)]
+#[derive(Clone, Copy)]
 pub struct ClosedOf {
     pub done: u8,
     pub used: usize,

@@ -2,15 +2,15 @@
 use mathlib.Core.Path.{◌≡◌, refl, sym, ap, ◌∙◌}
 use mathlib.Core.Bool.{Bool, true, false, ◌&&◌, cond}
 use mathlib.Core.List.{List, [], ◌∷◌, ◌++◌, flatten, append_assoc}
-use Prim.Native.Nat.{ℕ, zero, suc, ◌≤◌, ◌<◌}
+use Prim.Native.Nat.{ℕ, zero, suc, ◌+◌, ◌≤◌, ◌<◌}
 use native.Mathlib.Omega.{arith}
 use lib.ListN.{length, get_or, take, drop, length-append, length-drop, get_or-append}
 use lib.Seq.{length-take-le, get_or-take, take_at, drop_at}
 use lib.Dec.{leb}
-use borrow.Author.Tests.{le-leb, lt-leb, leb-true}
+use borrow.Author.Tests.{le-leb, leb-true}
 use Rattle.answer.specs.Digits.{is_digit, three_at}
 use Rattle.answer.specs.Laid.{PieceAt}
-use Rattle.answer.proofs.Pieces.{Sizes, all_pieces, pieces_cons, pieces_stop, rest_same}
+use Rattle.answer.proofs.Pieces.{Sizes, all_pieces, pieces_cons, pieces_stop}
 use Rattle.records.specs.declared.Found.{Found}
 use Rattle.records.specs.Record.{kind_of, network_of, length_good, network_good, index_good, starts_record, record_in, record_as, no_record, found_in, recs, takes_as, takes, names_as, is_named}
 use Rattle.records.specs.Claims.{AllRecords, a, b}
@@ -20,10 +20,6 @@ use Rattle.answer.proofs.DigitLaws.{digit_nine}
 -- ---- the size of a record, by the tests that the code makes
 
 module _ (xs : List ℕ) where
-  pub record_short : length xs < 8 → 0 ≡ record_in xs
-  unfolding record_in starts_record
-  record_short h = rw (lt-leb 8 (length xs) h) refl
-
   pub record_by : (n : ℕ) (g w i t : Bool) → 8 ≤ length xs → n ≡ three_at xs → g ≡ length_good xs → w ≡ network_good xs → i ≡ index_good xs
       → (g && (leb n (length xs) && (w && i))) ≡ t → cond t n 0 ≡ record_in xs
   unfolding record_in starts_record
@@ -177,6 +173,10 @@ module _ (s : List ℕ) (at : ℕ) (rec : Found) (f : rec ≡ found_in (drop at 
 
   pub found_at : at ≤ length s → PieceAt record_in s at rec.size
   found_at h = record { is = size_is; within = omega (arith, simp length-drop at (record_le (drop at s)), size_is) }
+
+  -- it ends within the bytes
+  pub found_within : at ≤ length s → at + rec.size ≤ length s
+  found_within h = (found_at h).within
 
   module _ (some : rec.size ≡ 0 → ⊥) where
     stands : record_in (drop at s) ≡ 0 → ⊥

@@ -1,18 +1,18 @@
 -- A store is its records and zeros: there and back, and what a sound store is.
 use mathlib.Core.Path.{◌≡◌, refl, sym, ap, ◌∙◌}
 use mathlib.Core.Bool.{true, ◌&&◌}
-use mathlib.Core.List.{List, [], ◌∷◌, ◌++◌, flatten, append-nil}
+use mathlib.Core.List.{List, [], ◌∷◌, ◌++◌, flatten}
 use Prim.Native.Nat.{ℕ, zero, suc, ◌-◌, ◌≤◌}
 use native.Mathlib.Omega.{arith}
-use lib.ListN.{length, get_or, take, drop, replicate, length-append, length-drop, length-replicate, take-append-drop}
-use lib.Seq.{take_at, drop_at, drop-length, length-take-le}
+use lib.ListN.{length, get_or, take, drop, length-append, length-drop, length-replicate, take-append-drop}
+use lib.Seq.{take_at, drop_at, length-take-le}
 use lib.Dec.{leb, eqb}
 use borrow.Author.Tests.{leb-true, le-leb, eqb-true, eq-eqb}
 use Rattle.answer.specs.Pieces.{rest, is_none, whole, every}
 use Rattle.answer.proofs.Pieces.{none_true, flatten_pieces, pieces_flatten, rest_flatten}
 use Rattle.records.specs.Record.{record_in, recs, takes}
 use Rattle.records.specs.Store.{zeros, store_of, fits, all_zero, sound_store}
-use Rattle.records.specs.Claims.{AllRecords, SoundAs, a, b}
+use Rattle.records.specs.Claims.{AllRecords, SoundAs, a}
 use Rattle.answer.proofs.Parts.{and_left, and_right}
 use Rattle.records.proofs.Records.{record_le, record_sizes, zero_none, recs_then, recs_all}
 
@@ -36,12 +36,6 @@ pub zeros_all : (n : ℕ) → all_zero (zeros n) ≡ true
 unfolding all_zero
 zeros_all zero = refl
 zeros_all (suc n) = zeros_all n
-
--- the first i bytes zeroed, where there are no more
-pub fill_done : (d : List ℕ) (i : ℕ) → i ≤ length d → length d ≤ i → replicate i 0 ++ drop i d ≡ replicate (length d) 0
-fill_done d i h k =
-    let e : i ≡ length d = omega arith in
-    ap (λ (n : ℕ). replicate n 0 ++ drop n d) e ∙ ap (λ (l : List ℕ). replicate (length d) 0 ++ l) (drop-length d) ∙ append-nil (replicate (length d) 0)
 
 -- ---- the limits
 

@@ -8,6 +8,7 @@ use crate::record::{is_taken, record_at, two_digits};
 use answer::digits::is_digit;
 
 // Whether the bytes from `used` on are all zero. They are joined with no test between, so that many are taken at a time.
+#[tactic(auto, using(crate::proofs::Checks::zero_more, crate::proofs::Checks::zero_done))]
 pub fn rest_is_zero(store: &[u8], used: usize) -> bool
     ensures { result ≡ all_zero (drop used store.now) }
 {
@@ -21,6 +22,7 @@ pub fn rest_is_zero(store: &[u8], used: usize) -> bool
 }
 
 // Whether the bytes are whole records, as many as told, and, unless any will do, records that a load for `network` takes.
+#[tactic(auto, using(crate::proofs::Records::found_within, crate::proofs::Checks::good_end, crate::proofs::Checks::good_stop, crate::proofs::Checks::good_more, crate::proofs::Checks::good_not))]
 fn records_good(bytes: &[u8], records: usize, network: u8, any: bool) -> bool
     ensures { result ≡ records_good any network records 0 bytes.now }
 {
@@ -43,6 +45,7 @@ fn records_good(bytes: &[u8], records: usize, network: u8, any: bool) -> bool
 }
 
 // Whether `store` is sound by its used bytes and the number of its records; `network` is that of the open load, or 0 for the live store.
+#[tactic(auto, unfolding(crate::specs::Store::sound_store, crate::specs::Steps::records_good))]
 pub fn check_store(store: &[u8], used: usize, records: usize, network: u8) -> bool
     ensures { result ≡ sound_store network used records store.now }
 {
@@ -59,6 +62,7 @@ pub fn check_store(store: &[u8], used: usize, records: usize, network: u8) -> bo
 }
 
 // Whether `block`, a count and then records, is good as a whole.
+#[tactic(auto, unfolding(crate::specs::Record::good_block, crate::specs::Steps::records_good))]
 pub fn block_good(block: &[u8]) -> bool
     ensures { result ≡ good_block block.now }
 {

@@ -48,6 +48,7 @@ fn index_good(s: &[u8]) -> bool
 }
 
 // The size of the record that `s` starts with, 0 where it starts with none.
+#[tactic(auto, unfolding(crate::specs::Record::record_in, crate::specs::Record::starts_record))]
 fn record_in(s: &[u8]) -> usize
     ensures { result ≡ record_in s.now }
 {
@@ -74,6 +75,7 @@ fn no_record() -> Found
 }
 
 // The record that `s` starts with.
+#[tactic(auto, unfolding(crate::specs::Record::found_in, crate::specs::Record::record_in, crate::specs::Record::starts_record))]
 fn found_in(s: &[u8]) -> Found
     ensures { result ≡ found_in s.now }
 {
@@ -89,6 +91,7 @@ fn found_in(s: &[u8]) -> Found
 }
 
 // The record at `at`.
+#[tactic(auto, using(crate::proofs::Records::found_past))]
 pub fn record_at(s: &[u8], at: usize) -> Found
     ensures { result ≡ found_in (drop at s.now) }
 {

@@ -174,10 +174,6 @@ module _ (s : List ℕ) (at : ℕ) (rec : Found) (f : rec ≡ found_in (drop at 
   pub found_at : at ≤ length s → PieceAt record_in s at rec.size
   found_at h = record { is = size_is; within = omega (arith, simp length-drop at (record_le (drop at s)), size_is) }
 
-  -- it ends within the bytes
-  pub found_within : at ≤ length s → at + rec.size ≤ length s
-  found_within h = (found_at h).within
-
   module _ (some : rec.size ≡ 0 → ⊥) where
     stands : record_in (drop at s) ≡ 0 → ⊥
     stands z = some (size_is ∙ z)
@@ -198,6 +194,10 @@ module _ (s : List ℕ) (at : ℕ) (rec : Found) (f : rec ≡ found_in (drop at 
 
     pub found_names : (w : ℕ) → names_as w rec.network ≡ is_named w (take rec.size (drop at s))
     found_names w = ap (names_as w) network_is
+
+-- what is found ends within the bytes
+pub found_ends : (s : List ℕ) (at : ℕ) → at ≤ length s → (found_in (drop at s)).size + at ≤ length s
+found_ends s at h = omega (arith, (found_at s at (found_in (drop at s)) refl h).within)
 
 -- ---- a zero byte starts no record
 

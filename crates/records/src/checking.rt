@@ -22,7 +22,7 @@ pub fn rest_is_zero(store: &[u8], used: usize) -> bool
 }
 
 // Whether the bytes are whole records, as many as told, and, unless any will do, records that a load for `network` takes.
-#[tactic(auto, using(crate::proofs::Records::found_within, crate::proofs::Checks::good_end, crate::proofs::Checks::good_stop, crate::proofs::Checks::good_more, crate::proofs::Checks::good_not))]
+#[tactic(auto, using(crate::proofs::Records::found_ends, crate::proofs::Checks::good_end, crate::proofs::Checks::good_stop, crate::proofs::Checks::good_more, crate::proofs::Checks::good_not))]
 fn records_good(bytes: &[u8], records: usize, network: u8, any: bool) -> bool
     ensures { result ≡ records_good any network records 0 bytes.now }
 {

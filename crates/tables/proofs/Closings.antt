@@ -1,57 +1,21 @@
 -- The laws of closing a load: what takes the live store's place, and when.
 use mathlib.Core.Path.{◌≡◌, refl, sym, ap, ◌∙◌}
 use mathlib.Core.Bool.{Bool, true, false, not, ◌&&◌}
-use mathlib.Core.List.{List, [], ◌++◌, append-nil}
+use mathlib.Core.List.{List, ◌++◌}
 use Prim.Native.Nat.{ℕ, ◌+◌, ◌-◌, ◌≤◌, min}
 use native.Mathlib.Omega.{arith}
-use lib.ListN.{length, take, drop, length-append, length-take, length-drop, drop_of_length-le}
-use lib.Seq.{take_at, take_all, take-length, length-take-le}
+use lib.ListN.{length, take, length-append, length-take}
+use lib.Seq.{take_all, take-length}
 use lib.Dec.{leb}
 use borrow.Author.Tests.{leb-true, leb-false}
-use Rattle.answer.specs.Laid.{PutIf}
-use Rattle.answer.proofs.Laid.{put_fits, pasted_length}
 use Rattle.records.specs.Record.{recs}
 use Rattle.records.specs.Store.{zeros}
 use Rattle.tables.specs.declared.Extent.{Extent}
 use Rattle.tables.specs.declared.Load.{Load}
 use Rattle.tables.specs.declared.Closed.{Closed}
 use Rattle.tables.specs.Closing.{not_named, closes, new_bytes, new_records, Closes}
-use Rattle.tables.specs.Steps.{staying_bytes, Stays, Compacts, Replaces, limits_kept, not_closed}
+use Rattle.tables.specs.Steps.{staying_bytes, Stays, Replaces, limits_kept, not_closed}
 use Rattle.answer.proofs.Parts.{and_left, and_right}
-
--- ---- what stays is moved together, other bytes are put behind it, and zeros behind those
-
-module _ (w used : ℕ) (bytes live : List ℕ) (room : length (staying_bytes w (take used live)) + length bytes ≤ length live) (to : ℕ) (live₁ : List ℕ) (k : Compacts w used live to live₁) where
-  put_room : to + length bytes ≤ length live₁
-  put_room = omega (arith, k.end, k.long)
-
-  module _ (e : ℕ) (live₂ : List ℕ) (u : PutIf live₁ to bytes e live₂) where
-    pub end_is : e ≡ to + length bytes
-    end_is = (put_fits live₁ to bytes e live₂ put_room u).next
-
-    pub put_long : length live₂ ≡ length live
-    put_long = ap length (put_fits live₁ to bytes e live₂ put_room u).bytes ∙ pasted_length live₁ to bytes put_room ∙ k.long
-
-    pub end_le : e ≤ length live₂
-    end_le = omega (arith, end_is, put_room, k.long, put_long)
-
-    front : take e live₂ ≡ staying_bytes w (take used live) ++ bytes
-    front =
-        let l : length (take to live₁ ++ bytes) ≡ e = simp length-append (omega (arith, length-take-le to live₁ (omega (arith, put_room)), end_is)) in
-        ap (take e) (put_fits live₁ to bytes e live₂ put_room u).bytes ∙ take_at (take to live₁ ++ bytes) (drop (to + length bytes) live₁) e l
-        ∙ ap (λ (x : List ℕ). x ++ bytes) k.front
-
-    pub replaced : (z : List ℕ) → z ≡ zeros (length (take (length live₂ - e) (drop e live₂))) → Replaces w used bytes live e (take e live₂ ++ (z ++ drop (length live₂ - e) (drop e live₂)))
-    replaced z q =
-        let h = end_le in
-        let m : length (take (length live₂ - e) (drop e live₂)) ≡ length live - e = simp (length-take, length-drop) (omega (arith, put_long, h)) in
-        let nil : drop (length live₂ - e) (drop e live₂) ≡ [] = drop_of_length-le (drop e live₂) {i = length live₂ - e} (simp length-drop (omega arith)) in
-        record {
-          end = omega (arith, end_is, k.end);
-          store =
-              ap (λ (x : List ℕ). take e live₂ ++ (z ++ x)) nil ∙ ap (λ (x : List ℕ). take e live₂ ++ x) (append-nil z)
-              ∙ ap (λ (x : List ℕ). x ++ z) front ∙ ap (λ (x : List ℕ). (staying_bytes w (take used live) ++ bytes) ++ x) (q ∙ ap zeros m);
-        }
 
 -- ---- numbers that may be larger than the store
 

@@ -1,7 +1,6 @@
 -- `Loads`, `NewSets`, `Networks` and `Promises` say what holds of loads, versions and the calls, `Samples` small cases; the others serve the
 -- proofs.
 pub mod Moves
-pub mod Limits
 pub mod Staying
 pub mod Stocking
 pub mod Closings

@@ -17,7 +17,7 @@ use Rattle.records.proofs.Records.{recs_all}
 use Rattle.records.proofs.Stores.{sound_as, as_sound, fits_bytes, store_long, zeros_are, zeros_all}
 use Rattle.tables.specs.declared.Load.{Load}
 use Rattle.tables.specs.Loading.{taken, taken_of, Kept, keep_one, keep_all, Stocked, has_room, stock_one, stock_all, Adds}
-use Rattle.tables.specs.Claims.{Holds, d}
+use Rattle.tables.specs.Claims.{Holds}
 use Rattle.answer.proofs.Parts.{and_left, and_right, flatten_append, every_append, all_join}
 use Rattle.tables.proofs.Stocking.{both}
 

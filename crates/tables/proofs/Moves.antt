@@ -5,11 +5,8 @@ use Prim.Native.Nat.{ℕ, ◌+◌, ◌-◌, ◌≤◌, ◌<◌}
 use native.Mathlib.Omega.{arith}
 use native.Mathlib.Numerals.{add-one}
 use lib.ListN.{length, get_or, set, take, drop, length-drop, take-append-drop}
-use lib.Seq.{get_or-drop, drop-drop, paste-zero, paste-suc, drop-paste}
+use lib.Seq.{get_or-drop, drop-drop, paste-suc, drop-paste}
 use Rattle.tables.specs.Steps.{moved}
-
-pub move_none : (s : List ℕ) (to from : ℕ) → s ≡ moved s to from 0
-move_none s to from = paste-zero s to (drop from s)
 
 pub move_more : (s : List ℕ) (to from j : ℕ) → to ≤ from → from + j < length s
     → set (moved s to from j) (to + j) (get_or (moved s to from j) (from + j) 0) ≡ moved s to from (j + 1)

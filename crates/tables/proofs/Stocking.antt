@@ -1,37 +1,19 @@
 -- The laws of adding to a store, record by record.
 use mathlib.Core.Path.{◌≡◌, refl, sym, ap, ◌∙◌}
-use mathlib.Core.Bool.{Bool, true, false, not, ◌&&◌, cond}
-use mathlib.Core.List.{List, []}
+use mathlib.Core.Bool.{Bool, true, false}
+use mathlib.Core.List.{List}
 use Prim.Native.Nat.{ℕ, ◌+◌, ◌-◌, ◌<◌}
 use native.Mathlib.Omega.{arith}
 use lib.ListN.{length, take, drop, drop_of_length-le}
-use lib.Dec.{leb, ltb}
-use borrow.Author.Tests.{leb-true}
 use Rattle.answer.specs.Pieces.{pieces_from}
-use Rattle.answer.specs.Laid.{pasted}
-use Rattle.answer.proofs.Laid.{pasted_length}
 use Rattle.answer.proofs.Pieces.{piece_more, piece_none}
 use Rattle.records.specs.declared.Found.{Found}
-use Rattle.records.specs.Record.{record_in, found_in, recs, takes_as, takes, good_block, records_of}
+use Rattle.records.specs.Record.{record_in, found_in, recs, takes_as, takes}
 use Rattle.records.proofs.Records.{record_le, size_is, found_takes}
 use Rattle.tables.specs.declared.Load.{Load}
-use Rattle.tables.specs.Loading.{Stocked, has_room, stock_one, stock_all, taken, taken_of, stocked, Adds}
+use Rattle.tables.specs.Loading.{Stocked, stock_one, stock_all, taken}
 use Rattle.tables.specs.Steps.{Stocks, stocked_all, StocksAll}
-use Rattle.answer.proofs.Parts.{and_left, and_right, piece_part}
-
--- the store keeps its size
-pub one_long : (s : Stocked) (r : List ℕ) → length (stock_one s r).bytes ≡ length s.bytes
-unfolding stock_one has_room
-one_long s r = cases (not s.load.over && (leb (s.load.used + length r) (length s.bytes) && ltb s.load.records 512)) refl
-  where
-    cases : (t : Bool) → (not s.load.over && (leb (s.load.used + length r) (length s.bytes) && ltb s.load.records 512)) ≡ t
-        → length (cond {A = Stocked} t
-        (record { load = record { used = s.load.used + length r; records = s.load.records + 1; over = false }; bytes = pasted s.bytes s.load.used r })
-        (record { load = record { used = s.load.used; records = s.load.records; over = true }; bytes = s.bytes })).bytes ≡ length s.bytes
-    cases true e =
-        let f = and_right (not s.load.over) (leb (s.load.used + length r) (length s.bytes) && ltb s.load.records 512) e in
-        pasted_length s.bytes s.load.used r (leb-true (s.load.used + length r) (length s.bytes) (and_left (leb (s.load.used + length r) (length s.bytes)) (ltb s.load.records 512) f))
-    cases false e = refl
+use Rattle.answer.proofs.Parts.{piece_part}
 
 -- ---- a walk over the records of a block: what is still to be added to a store
 
@@ -72,24 +54,3 @@ adds_by w load block bytes r bytes' e = record { load' = sym (ap (λ (s : Stocke
 pub adds_short : (w : ℕ) (load : Load) (block bytes : List ℕ) → length block < 2 → StocksAll w load block bytes load bytes
 unfolding taken stock_all pieces_from
 adds_short w load block bytes h = adds_by w load block bytes load bytes (rw (drop_of_length-le block {i = 2} (omega arith)) refl)
-
--- ---- a block as a whole
-
-module _ (w : ℕ) (load : Load) (block bytes : List ℕ) where
-  -- a good block adds its records, a bad one none
-  taken_by : (t : Bool) → good_block block ≡ t → taken_of w block ≡ cond t (taken w (records_of block)) []
-  unfolding taken_of
-  taken_by t e = rw e refl
-
-  pub adds_none : good_block block ≡ false → Adds w load block bytes load bytes
-  unfolding stock_all
-  adds_none e = record {
-    load' = sym (ap (λ (rs : List (List ℕ)). (stock_all (both load bytes) rs).load) (taken_by false e));
-    store' = sym (ap (λ (rs : List (List ℕ)). (stock_all (both load bytes) rs).bytes) (taken_by false e));
-  }
-
-  pub adds_good : (r : Load) (bytes' : List ℕ) → good_block block ≡ true → StocksAll w load block bytes r bytes' → Adds w load block bytes r bytes'
-  adds_good r bytes' e a = record {
-    load' = a.load' ∙ sym (ap (λ (rs : List (List ℕ)). (stock_all (both load bytes) rs).load) (taken_by true e));
-    store' = a.store' ∙ sym (ap (λ (rs : List (List ℕ)). (stock_all (both load bytes) rs).bytes) (taken_by true e));
-  }

@@ -1,6 +1,6 @@
 -- The laws of the versions, ten bytes for each network.
 use mathlib.Core.Path.{◌≡◌, refl, sym, ap, ◌∙◌}
-use mathlib.Core.List.{List, ◌++◌, flatten, append_assoc, append-nil}
+use mathlib.Core.List.{List, [], ◌++◌, flatten, append_assoc, append-nil}
 use Prim.Native.Nat.{ℕ, zero, suc, ◌+◌, ◌*◌, ◌≤◌, ◌<◌}
 use native.Mathlib.Omega.{arith}
 use native.Mathlib.Numerals.{add-one}
@@ -14,6 +14,11 @@ use Rattle.tables.specs.Closing.{no_version, new_versions}
 -- n versions, one after another
 abbrev pub many : ℕ → List ℕ → List ℕ
 many n v = flatten (replicate n v)
+
+-- none yet
+pub none_yet : (l : List ℕ) → flatten {A = ℕ} [] ++ l ≡ l
+unfolding flatten
+none_yet l = refl
 
 many_last : (n : ℕ) (v : List ℕ) → many n v ++ v ≡ v ++ many n v
 unfolding flatten

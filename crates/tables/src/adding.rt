@@ -18,6 +18,7 @@ fn marked_over(load: Load) -> Load
 }
 
 // Puts one record behind the used bytes of the load's store, or marks the load as over.
+#[tactic(auto, using(answer::proofs::Laid::put_fits), unfolding(crate::specs::Loading::stock_one, crate::specs::Loading::has_room))]
 fn add_record(store: &mut [u8], load: Load, rec: &[u8]) -> Load
     ensures { Stocks load rec.now store.old result store.new }
 {
@@ -40,6 +41,7 @@ fn add_record(store: &mut [u8], load: Load, rec: &[u8]) -> Load
 }
 
 // Adds the records of `block` that a load for `network` takes, in order.
+#[tactic(auto, using(records::proofs::Records::found_ends, crate::proofs::Stocking::left_none, crate::proofs::Stocking::left_skip, crate::proofs::Stocking::left_more, crate::proofs::Stocking::adds_by, crate::proofs::Stocking::adds_short))]
 fn add_records(store: &mut [u8], load: Load, network: u8, block: &[u8]) -> Load
     ensures { StocksAll network load block.now store.old result store.new }
 {
@@ -64,6 +66,7 @@ fn add_records(store: &mut [u8], load: Load, network: u8, block: &[u8]) -> Load
 }
 
 // Adds what a load for `network` takes of `block`: its records, in order, and nothing where the block is bad.
+#[tactic(auto, unfolding(crate::specs::Loading::taken_of, crate::specs::Loading::stock_all))]
 pub fn add_block(store: &mut [u8], load: Load, network: u8, block: &[u8]) -> Load
     ensures { Adds network load block.now store.old result store.new }
 {

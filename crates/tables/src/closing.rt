@@ -8,6 +8,7 @@ use crate::{Closed, Extent, Load};
 use records::{is_named, record_at, zero_store};
 
 // How many bytes and records of `bytes` stay when a load for `network` closes.
+#[tactic(auto, using(records::proofs::Records::found_ends, crate::proofs::Staying::stay_end, crate::proofs::Staying::count_end, crate::proofs::Staying::stay_named, crate::proofs::Staying::count_named, crate::proofs::Staying::long_more, crate::proofs::Staying::count_more))]
 fn staying(bytes: &[u8], network: u8) -> Extent
     ensures { Stays network bytes.now result }
 {
@@ -31,6 +32,7 @@ fn staying(bytes: &[u8], network: u8) -> Extent
 }
 
 // Moves the `len` bytes at `from` down to `to`.
+#[tactic(auto, using(crate::proofs::Moves::move_more, crate::proofs::Moves::move_same))]
 fn move_down(s: &mut [u8], to: usize, from: usize, len: usize)
     requires { (to ≤ from) × (from + len ≤ length s.old) }
     ensures { s.new ≡ moved s.old to from len }
@@ -46,6 +48,7 @@ fn move_down(s: &mut [u8], to: usize, from: usize, len: usize)
 }
 
 // Moves the records of the first `used` bytes that stay down to the start, in order, and tells where they end.
+#[tactic(auto, using(crate::proofs::Staying::found_part, crate::proofs::Staying::pack_within, crate::proofs::Staying::pack_skip, crate::proofs::Staying::pack_keep, crate::proofs::Staying::pack_done))]
 fn compact(live: &mut [u8], used: usize, network: u8) -> usize
     requires { used ≤ length live.old }
     ensures { Compacts network used live.old result live.new }
@@ -69,6 +72,7 @@ fn compact(live: &mut [u8], used: usize, network: u8) -> usize
 }
 
 // Whether what stays, with `n` bytes and the load's records more, passes no limit.
+#[tactic(auto, unfolding(crate::specs::Steps::limits_kept))]
 fn keeps_limits(size: usize, stays: Extent, n: usize, load: Load) -> bool
     ensures { result ≡ limits_kept size stays n load }
 {
@@ -117,6 +121,7 @@ fn replace(live: &mut [u8], used: usize, network: u8, bytes: &[u8]) -> usize
 }
 
 // Makes the new set the live one where it passes no limit. Nothing is touched before its size is known.
+#[tactic(auto, using(crate::proofs::Closings::stays_so, crate::proofs::Closings::has_place, crate::proofs::Closings::few, crate::proofs::Closings::made))]
 fn make_live(live: &mut [u8], loading: &[u8], extent: Extent, load: Load, network: u8) -> Closed
     ensures { Closes network extent load live.old loading.now result live.new (zeros (length loading.now)) }
 {

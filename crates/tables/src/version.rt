@@ -4,6 +4,7 @@ ghost use mathlib.Core.List.{flatten};
 ghost use Rattle.tables.specs.Closing.{new_versions};
 
 // Puts the version in each of the hundred places.
+#[tactic(auto, using(crate::proofs::Versions::none_yet, crate::proofs::Versions::version_more))]
 fn put_everywhere(versions: &mut [u8], version: &[u8])
     requires { (length versions.old ≡ 1000) × (length version.now ≡ 10) }
     ensures { versions.new ≡ flatten (replicate 100 version.now) }
@@ -16,6 +17,7 @@ fn put_everywhere(versions: &mut [u8], version: &[u8])
 }
 
 // The versions after a load of `network` closed with `version`.
+#[tactic(auto, using(crate::proofs::Versions::versions_all, crate::proofs::Versions::versions_same, crate::proofs::Versions::versions_one))]
 pub fn versions_after(versions: [u8; 1000], network: u8, version: [u8; 10]) -> [u8; 1000]
     ensures { result ≡ new_versions network version versions }
 {

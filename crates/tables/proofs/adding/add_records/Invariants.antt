@@ -8,7 +8,7 @@ use Rattle.tables.proofs.adding.add_records.Given as goal
 
 abbrev pub invariant-loop-rec : goal.invariant-loop-rec
 invariant-loop-rec l =
-    (l.at ≤ length l.block) × (length l.store ≡ length l.initial.store) × (stocked_all l.network (both l.initial.grown l.initial.store) l.block ≡ Left l.network l.block l.at l.grown l.store)
+    (l.at ≤ length l.block) × (stocked_all l.network (both l.initial.grown l.initial.store) l.block ≡ Left l.network l.block l.at l.grown l.store)
 
 abbrev pub decreases-loop-rec : goal.decreases-loop-rec
 decreases-loop-rec l = length l.block - l.at

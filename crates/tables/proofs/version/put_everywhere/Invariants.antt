@@ -2,12 +2,12 @@
 use Prim.Native.Nat.{◌*◌, ◌≤◌, ◌-◌}
 use mathlib.Core.Path.{◌≡◌}
 use mathlib.Core.List.{◌++◌}
-use lib.ListN.{length, drop}
+use lib.ListN.{drop}
 use Rattle.tables.proofs.Versions.{many}
 use Rattle.tables.proofs.version.put_everywhere.Given as goal
 
 abbrev pub invariant-loop-n : goal.invariant-loop-n
-invariant-loop-n l = (l.n ≤ 100) × (length l.versions ≡ length l.initial.versions) × (l.versions ≡ many l.n l.version ++ drop (l.n * 10) l.initial.versions)
+invariant-loop-n l = (l.n ≤ 100) × (l.versions ≡ many l.n l.version ++ drop (l.n * 10) l.initial.versions)
 
 abbrev pub decreases-loop-n : goal.decreases-loop-n
 decreases-loop-n l = 100 - l.n

@@ -1,8 +1,9 @@
 /* A device on a line, from C: it is started, receives a packet byte by byte, sends its response again when asked to, and forgets it. Then a packet in one
  * piece, one that is broken off, and two calls that are refused. It prints the exchange, and ends with 1 if anything is not as it should be.
  *
- *     rt staticlib abecs
- *     gcc -std=c11 -Wall -Wextra -Werror -Iinclude examples/device.c target/staticlib/libabecs.a -o target/device-example && target/device-example
+ *     (cd crates/abecs && rt lib)
+ *     mkdir -p target
+ *     gcc -std=c11 -Wall -Wextra -Werror -Iinclude examples/device.c crates/abecs/out/libabecs.a -o target/device-example && target/device-example
  */
 #include <stdio.h>
 #include <stdlib.h>

@@ -1,8 +1,9 @@
 //! A device on a line, from Rust: it is kept in this program's own memory over several calls, opens the line, loads a table and
 //! loses its cable in the middle of the next load.
 //!
-//!     rt staticlib abecs
-//!     rustc -O -D warnings -L native=target/staticlib -l static=abecs examples/device.rs -o target/device-example-rs
+//!     (cd crates/abecs && rt lib)
+//!     mkdir -p target
+//!     rustc -O -D warnings -L native=crates/abecs/out -l static=abecs examples/device.rs -o target/device-example-rs
 
 const STORE: usize = 32_768;
 const ROOM: usize = 64;

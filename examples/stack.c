@@ -1,7 +1,8 @@
 /* How much stack the device's calls take on this machine. Each call runs on a stack of its own that was painted before; what is not paint any more was used.
  *
- *     rt staticlib abecs
- *     gcc -std=gnu11 -Wall -Wextra -Werror -Iinclude examples/stack.c target/staticlib/libabecs.a -o target/stack-example && target/stack-example
+ *     (cd crates/abecs && rt lib)
+ *     mkdir -p target
+ *     gcc -std=gnu11 -Wall -Wextra -Werror -Iinclude examples/stack.c crates/abecs/out/libabecs.a -o target/stack-example && target/stack-example
  */
 #include <stdio.h>
 #include <string.h>

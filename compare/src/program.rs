@@ -13,11 +13,11 @@ type Place = (&'static str, &'static str);
 
 const LINE: Place = (
     "ABECS_LINE",
-    concat!(env!("CARGO_MANIFEST_DIR"), "/../target/bin/line"),
+    concat!(env!("CARGO_MANIFEST_DIR"), "/../crates/line/out/line"),
 );
 const REPLAY: Place = (
     "ABECS_REPLAY",
-    concat!(env!("CARGO_MANIFEST_DIR"), "/../target/bin/replay"),
+    concat!(env!("CARGO_MANIFEST_DIR"), "/../crates/replay/out/replay"),
 );
 
 /// How a program gets its input.

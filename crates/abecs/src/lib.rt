@@ -25,7 +25,7 @@ use tables::{Extent, Load};
 // Starts a fresh device and zeroes both stores. Refusal: 2, which leaves the image as it was, whatever its bytes.
 #[unsafe(no_mangle)]
 pub extern "C" fn abecs_start(image: &mut Image, live: &mut [u8], loading: &mut [u8]) -> Taken
-    ensures { StartsImage image.entry.now live.old loading.old (record { image = image.exit.now; answer = result }) live.new loading.new }
+    ensures { StartsImage image.old live.old loading.old (record { image = image.new; answer = result }) live.new loading.new }
 {
     let next = start_image(*image, live, loading);
     *image = next.image;
@@ -41,7 +41,7 @@ pub extern "C" fn abecs_receive(
     live: &mut [u8],
     loading: &mut [u8],
 ) -> Taken
-    ensures { ReceivesImage image.entry.now piece.now out.old live.old loading.old (record { image = image.exit.now; answer = result }) out.new live.new loading.new }
+    ensures { ReceivesImage image.old piece.now out.old live.old loading.old (record { image = image.new; answer = result }) out.new live.new loading.new }
 {
     let next = receive_image(*image, piece, out, live, loading);
     *image = next.image;
@@ -56,7 +56,7 @@ pub extern "C" fn abecs_timeout(
     live: &mut [u8],
     loading: &mut [u8],
 ) -> Taken
-    ensures { TimesOutImage image.entry.now out.old live.old loading.old (record { image = image.exit.now; answer = result }) out.new live.new loading.new }
+    ensures { TimesOutImage image.old out.old live.old loading.old (record { image = image.new; answer = result }) out.new live.new loading.new }
 {
     let next = timeout_image(*image, out, live, loading);
     *image = next.image;
@@ -71,7 +71,7 @@ pub extern "C" fn abecs_restart(
     live: &mut [u8],
     loading: &mut [u8],
 ) -> Taken
-    ensures { RestartsImage image.entry.now out.old live.old loading.old (record { image = image.exit.now; answer = result }) out.new live.new loading.new }
+    ensures { RestartsImage image.old out.old live.old loading.old (record { image = image.new; answer = result }) out.new live.new loading.new }
 {
     let next = restart_image(*image, out, live, loading);
     *image = next.image;
@@ -161,7 +161,7 @@ pub extern "C" fn abecs_pick(tags: &[u8], list: &[u8], out: &mut [u8]) -> Answer
 
 // The extent of a load's store, with the flag as a byte.
 #[repr(C)]
-#[derive(Drop)]
+#[derive(Clone, Copy)]
 pub struct LoadOf {
     pub used: usize,
     pub records: usize,
@@ -170,7 +170,7 @@ pub struct LoadOf {
 
 // What closing a load answers, with the flag as a byte.
 #[repr(C)]
-#[derive(Drop)]
+#[derive(Clone, Copy)]
 pub struct ClosedOf {
     pub done: u8,
     pub used: usize,

@@ -55,14 +55,14 @@ front_zeros n payload l e z =
     let f : zeros (19 - length (take n payload)) ≡ drop n payload = ap zeros (sym d) ∙ sym (zeros_are (drop n payload) z) in
     (ap (λ (q : List ℕ). take n payload ++ q) f ∙ take-append-drop n payload, k)
 
-held_by : (n : ℕ) (payload : List ℕ) (times : ℕ) → length payload ≡ 19 → held_sound (held_by n payload times) ≡ true
+held_by_lem : (n : ℕ) (payload : List ℕ) (times : ℕ) → length payload ≡ 19 → held_sound (held_by n payload times) ≡ true
     → held_of (holding_in n payload times) ≡ held_by n payload times
 unfolding held_sound
-held_by zero payload times l e =
+held_by_lem zero payload times l e =
     let f = front_zeros 0 payload l refl (and_left (all_zero payload) (eqb times 0) e) in
     let t = eqb-true times 0 (and_right (all_zero payload) (eqb times 0) e) in
     λ i. held_by 0 (f.0 i) (sym t i)
-held_by (suc n) payload times l e =
+held_by_lem (suc n) payload times l e =
     let a = all_zero (drop (suc n) payload) in
     let c = cond (eqb (suc n) 0) (eqb times 0) (is_response (take (suc n) payload) && leb times 3) in
     let f = front_zeros (suc n) payload l (and_left (leb (suc n) 19) (a && c) e) (and_left a c (and_right (leb (suc n) 19) (a && c) e)) in
@@ -71,7 +71,7 @@ held_by (suc n) payload times l e =
 -- the held response as it is held
 pub held_back : (h : Held) → length h.response.payload ≡ 19 → held_sound h ≡ true
     → held_of (holding_in h.response.length h.response.payload h.times) ≡ h
-held_back h l e = held_by h.response.length h.response.payload h.times l e
+held_back h l e = held_by_lem h.response.length h.response.payload h.times l e
 
 can_by : (n : ℕ) (payload : List ℕ) (times : ℕ) → can_send (holding_in n payload times) ≡ (leb 1 n && ltb times 3)
 can_by zero payload times = refl

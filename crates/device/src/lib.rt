@@ -20,7 +20,7 @@ pub use state::{Device, Held};
 use state::{can_resend, line_of, nothing_held, refusal_of, sizes_good, with_line};
 
 // The device after a call, the refusal's number or 0, how many bytes of the piece were taken, and how many were written to the start of `out`.
-#[derive(Drop)]
+#[derive(Clone, Copy)]
 pub struct Received {
     pub device: Device,
     pub refusal: u8,
@@ -29,14 +29,14 @@ pub struct Received {
 }
 
 // A fresh device, and the refusal's number or 0.
-#[derive(Drop)]
+#[derive(Clone, Copy)]
 pub struct Started {
     pub device: Device,
     pub refusal: u8,
 }
 
 // The device after a reply, and how many bytes were written.
-#[derive(Drop)]
+#[derive(Clone, Copy)]
 struct Replied {
     device: Device,
     written: usize,

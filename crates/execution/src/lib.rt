@@ -17,7 +17,7 @@ use tables::{Extent, Load};
 
 // The open load: what TLI named, the extent of the records kept and whether one was not, and whether a TLR was answered 000. With no load open
 // every field is 0.
-#[derive(Drop)]
+#[derive(Clone, Copy)]
 pub struct OpenLoad {
     pub opened: bool,
     pub network: u8,
@@ -27,7 +27,7 @@ pub struct OpenLoad {
 }
 
 // What commands read and change, beside the two lent stores: ten bytes of version for each network, the live store's extent, the open load.
-#[derive(Drop)]
+#[derive(Clone, Copy)]
 pub struct Tables {
     pub versions: [u8; 1000],
     pub live: Extent,
@@ -35,14 +35,14 @@ pub struct Tables {
 }
 
 // A response's payload, zeros after it, and its length.
-#[derive(Drop)]
+#[derive(Clone, Copy)]
 pub struct Response {
     pub payload: [u8; 19],
     pub length: usize,
 }
 
 // What is left by a command, and its response.
-#[derive(Drop)]
+#[derive(Clone, Copy)]
 pub struct Executed {
     pub tables: Tables,
     pub response: Response,

@@ -73,6 +73,7 @@ pub(crate) fn image_of(device: Device) -> Image
 }
 
 // The state that a number stands for.
+#[tactic(auto, unfolding(reception::specs::Cases::reception_of))]
 fn reception_of(code: u8, first: u8) -> Reception
     ensures { result ≡ reception_of code first }
 {
@@ -86,6 +87,7 @@ fn reception_of(code: u8, first: u8) -> Reception
 }
 
 // Whether the bytes are an image.
+#[tactic(auto, unfolding(crate::specs::Image::is_image))]
 fn is_image(image: Image) -> bool
     ensures { result ≡ is_image image }
 {
@@ -103,6 +105,7 @@ fn count_in(image: Image) -> usize
 }
 
 // The open load of an image.
+#[tactic(auto, unfolding(crate::specs::Image::device_of))]
 fn load_of(image: Image) -> OpenLoad
     ensures { result ≡ (device_of image).tables.load }
 {

@@ -12,7 +12,7 @@ use device::Received;
 
 // Every byte of a device. `state` is 0 to 4, `first` the first check byte in state 4 and else 0; spoiled, opened, over and any are 0 or 1.
 #[repr(C)]
-#[derive(Drop)]
+#[derive(Clone, Copy)]
 pub struct Image {
     pub state: u8,
     pub first: u8,
@@ -36,7 +36,7 @@ pub struct Image {
 
 // The refusal's number or 0, how many bytes of the piece were taken, and how many were written to the start of `out`.
 #[repr(C)]
-#[derive(Drop)]
+#[derive(Clone, Copy)]
 pub struct Taken {
     pub refusal: u8,
     pub taken: usize,
@@ -45,7 +45,7 @@ pub struct Taken {
 
 // The image after a call, and its answer.
 #[repr(C)]
-#[derive(Drop)]
+#[derive(Clone, Copy)]
 pub struct Imaged {
     pub image: Image,
     pub answer: Taken,

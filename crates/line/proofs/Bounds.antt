@@ -1,10 +1,9 @@
--- A call stays within what it is lent.
+-- A call stays within the buffer that it is lent.
 use mathlib.Core.Path.{◌≡◌, sym, ap, ◌∙◌}
 use mathlib.Core.List.{List}
-use Prim.Native.Nat.{ℕ, ◌+◌, ◌-◌, ◌≤◌}
+use Prim.Native.Nat.{ℕ, ◌≤◌}
 use native.Mathlib.Omega.{arith}
-use lib.ListN.{length, take, drop, length-append, length-drop}
-use lib.Seq.{length-take-le}
+use lib.ListN.{length, drop, length-append}
 use Rattle.answer.specs.Answers.{over}
 use Rattle.state.specs.State.{State}
 use Rattle.state.specs.Sound.{refusal_of}
@@ -22,7 +21,3 @@ written_within x left out r out' live' loading' g e =
     let n : r.written ≡ length reply = ap {B = ℕ} (λ (q : Received). q.written) g.result in
     let h : length reply ≤ length out = over_fits reply out (sym (ap length g.said) ∙ e) in
     omega (arith, n, h)
-
--- what fits in the rest of a list ends within the list
-pub rest_fits : (n k : ℕ) (l : List ℕ) → n ≤ length l → k ≤ length (take (length l - n) (drop n l)) → n + k ≤ length l
-rest_fits n k l h f = omega (arith, h, f, length-take-le (length l - n) (drop n l) (omega (arith, length-drop n l)))

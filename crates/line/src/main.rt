@@ -1,19 +1,21 @@
 // A fresh device between standard input and standard output: it reads bytes as they come, and writes its replies and nothing else.
 #![tactic(auto)]
 
-ghost use Rattle.std.specs.Prelude.{◌≡◌, ◌+◌, ◌≤◌, length};
+ghost use Rattle.std.specs.Prelude.{◌≡◌, ◌+◌, ◌≤◌, length, IfOk};
 
 use device::{Device, Received, receive};
+use std::io;
+use std::io::{Read, Write};
 
 // What is left after a read: the device, and whether more may come.
-#[derive(Drop)]
+#[derive(Clone, Copy)]
 struct Turn {
     device: Device,
     more: bool,
 }
 
 // The device after a piece, and how many bytes of replies are still to be written.
-#[derive(Drop)]
+#[derive(Clone, Copy)]
 struct Offered {
     device: Device,
     used: usize,
@@ -27,15 +29,15 @@ fn empty_store() -> [u8; 32768]
 }
 
 // Writes out the replies where another might not fit, and tells where the next one goes.
-fn make_room(out: &[u8], used: usize) -> usize
+fn make_room<W: Write>(output: &mut W, out: &[u8], used: usize) -> io::Result<usize>
     requires { (used ≤ length out.now) × (64 ≤ length out.now) }
-    ensures { (result + 64 ≤ length out.now) × (result ≤ used) }
+    ensures { IfOk result (λ n. (n + 64 ≤ length out.now) × (n ≤ used)) }
 {
     if 64 <= out.len() - used {
-        return used;
+        return Ok(used);
     }
-    io::write_all(1, &out[0..used]);
-    0
+    output.write_all(&out[0..used])?;
+    Ok(0)
 }
 
 // One call of the device.
@@ -53,73 +55,90 @@ fn call(
 
 // Offers the bytes of `piece` until all are taken, and puts the replies one after another. A call that takes nothing was refused, and would be
 // again.
-fn offer(
+fn offer<W: Write>(
+    output: &mut W,
     device: Device,
     piece: &[u8],
     out: &mut [u8],
     live: &mut [u8],
     loading: &mut [u8],
-) -> Offered
+) -> io::Result<Offered>
     requires { 64 ≤ length out.old }
-    ensures { result.used ≤ length out.old }
+    ensures { IfOk result (λ offered. offered.used ≤ length out.old) }
 {
     let mut at = 0;
     let mut used = 0;
     let mut next = device;
     while at < piece.len() {
-        used = make_room(out, used);
+        used = make_room(output, out, used)?;
         let got = call(next, &piece[at..], &mut out[used..], live, loading);
         next = got.device;
         used += got.written;
         at += got.taken;
         if got.taken == 0 {
-            return Offered { device: next, used };
+            return Ok(Offered { device: next, used });
         }
     }
-    Offered { device: next, used }
+    Ok(Offered { device: next, used })
 }
 
-// Reads once, and offers what came.
-fn read_once(device: Device, live: &mut [u8], loading: &mut [u8]) -> Turn {
-    let mut input = io::buffer();
-    let mut out = io::buffer();
-    let got = libc::read(0, &mut input);
-    let n = io::count(got, &input);
+// Reads once, offers what came, and writes out the replies.
+fn read_once<R: Read, W: Write>(
+    input: &mut R,
+    output: &mut W,
+    device: Device,
+    live: &mut [u8],
+    loading: &mut [u8],
+) -> io::Result<Turn> {
+    let mut came = [0u8; 4096];
+    let mut out = [0u8; 4096];
+    let n = input.read(&mut came)?;
     if n == 0 {
-        return Turn {
+        return Ok(Turn {
             device,
             more: false,
-        };
+        });
     }
-    let offered = offer(device, &input[0..n], &mut out, live, loading);
+    let offered = offer(output, device, &came[0..n], &mut out, live, loading)?;
     let used = offered.used;
-    io::write_all(1, &out[0..used]);
+    output.write_all(&out[0..used])?;
+    output.flush()?;
     let next = offered.device;
-    Turn {
+    Ok(Turn {
         device: next,
         more: true,
-    }
+    })
 }
 
 // Reads until the input ends. Nothing says that it does, and a proved loop must end, so the turns are counted down from more than there
 // will be.
-fn run(device: Device, live: &mut [u8], loading: &mut [u8]) {
+fn run<R: Read, W: Write>(
+    input: &mut R,
+    output: &mut W,
+    device: Device,
+    live: &mut [u8],
+    loading: &mut [u8],
+) -> io::Result<()> {
     let mut next = device;
     let mut turns = u64::MAX;
     while turns > 0 {
-        let left = read_once(next, live, loading);
+        let left = read_once(input, output, next, live, loading)?;
         if !left.more {
-            return;
+            return Ok(());
         }
         next = left.device;
         turns -= 1;
     }
+    Ok(())
 }
 
-fn main() {
+// A read or a write that fails ends the program.
+fn main(rt: HostRuntime) -> io::Result<()> {
+    let mut input = rt.stdin();
+    let mut output = rt.stdout();
     let mut live = empty_store();
     let mut loading = empty_store();
     let started = device::start(&mut live, &mut loading);
     let device = started.device;
-    run(device, &mut live, &mut loading);
+    run(&mut input, &mut output, device, &mut live, &mut loading)
 }

@@ -61,6 +61,12 @@ module _ (xs : List ℕ) (j : ℕ) (r : ObjectRead) (e : r ≡ read_of (take (le
   pub whole_there : r.whole ≡ object_size (drop j xs)
   whole_there = ap (λ (x : ObjectRead). x.whole) read_there ∙ read_whole (drop j xs)
 
+  pub whole_inside : j ≤ length xs → j + r.whole ≤ length xs
+  whole_inside h = within object_size size_le xs j r.whole whole_there h
+
+  pub whole_some : r.refusal ≡ 0 → r.whole ≡ 0 → ⊥
+  whole_some z w = size_some (drop j xs) (sym refusal_there ∙ z) (sym whole_there ∙ w)
+
   pub object_there : j < length xs → rest object_size (drop j xs) ≡ [] → ObjectAt xs j r
   object_there h w =
       let n = subst (Nested (drop j xs)) (sym read_there) (read_nested (drop j xs)) in

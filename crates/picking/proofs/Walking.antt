@@ -9,11 +9,11 @@ use lib.Seq.{length-take-le}
 use lib.Dec.{ltb}
 use borrow.Author.Tests.{lt-ltb, le-ltb, ltb-false, eq-eqb, ne_eqb}
 use Rattle.answer.specs.declared.Answer.{Answer}
-use Rattle.answer.specs.Answers.{Gives, within, over, answer_of, bytes_of}
+use Rattle.answer.specs.Answers.{within, over, answer_of}
 use Rattle.answer.specs.Answers.Result.{Good, Refused}
-use Rattle.answer.specs.Laid.{pasted, PutIf}
+use Rattle.answer.specs.Laid.{pasted}
 use Rattle.answer.specs.Pieces.{pieces_from}
-use Rattle.answer.proofs.Laid.{over_more, over_long, put_fits}
+use Rattle.answer.proofs.Laid.{over_more, over_long}
 use Rattle.answer.proofs.Pieces.{piece_more}
 use Rattle.answer.proofs.Parts.{part_add}
 use Rattle.objects.specs.declared.ObjectRead.{ObjectRead}
@@ -72,13 +72,6 @@ module _ (xs : List ℕ) (j : ℕ) (r : ObjectRead) (o : ObjectAt xs j r) where
       let s : shown_at xs j r ≡ bytes = simp (withheld_as false e) back in
       record { bytes = s; size = sym (ap length s ∙ length-take-le r.whole (drop j xs) (simp length-drop (omega arith))); within = l }
 
--- n bytes at j of xs, put where there is room for them
-pub part_put : (xs : List ℕ) (j n : ℕ) → j + n ≤ length xs → (out : List ℕ) (at q : ℕ) (out' : List ℕ) → at + n ≤ length out
-    → PutIf out at (take (j + n - j) (drop j xs)) q out' → out' ≡ pasted out at (take n (drop j xs))
-part_put xs j n h out at q out' k p =
-    let l = length-take-le n (drop j xs) (simp length-drop (omega arith)) in
-    (put_fits out at (take n (drop j xs)) q out' (omega arith) (subst (λ (s : List ℕ). PutIf out at s q out') (part_add (drop j xs) j n) p)).bytes
-
 -- ---- what is left to pick
 
 module _ (tags objects : List ℕ) where
@@ -131,19 +124,9 @@ pub record Walked (all before : List ℕ) (writing : Bool) (left out : List ℕ)
   pub room : at ≤ length before
   pub bytes : out ≡ cond writing (over done before) before
 
-pub walked_none : (all out : List ℕ) (writing : Bool) → Walked all out writing all out 0
-walked_none all out writing = record { done = []; whole = refl; place = refl; room = omega arith; bytes = cases writing }
-  where
-    cases : (w : Bool) → out ≡ cond w (over [] out) out
-    cases true = refl
-    cases false = refl
-
 module _ (all before : List ℕ) (writing : Bool) (left out : List ℕ) (at : ℕ) (w : Walked all before writing left out at) where
   pub walked_as : (left' : List ℕ) → left ≡ left' → Walked all before writing left' out at
   walked_as left' e = subst (λ (l : List ℕ). Walked all before writing l out at) e w
-
-  pub walked_same : (out' : List ℕ) (at' : ℕ) → out' ≡ out → at' ≡ at → Walked all before writing left out' at'
-  walked_same out' at' e f = rw (e, f) w
 
   -- the room stays what it was
   pub walked_size : length out ≡ length before
@@ -208,17 +191,6 @@ module _ (s out : List ℕ) (r : Answer) (out' : List ℕ) where
       cases : (t : Bool) → ltb (length out) (length s) ≡ t → length s ≤ length out
       cases true e = absurd (let o : r.refusal ≡ 1 = ap (λ (x : Answer). x.refusal) (answered true e w.answer) in omega arith)
       cases false e = ltb-false (length out) (length s) e
-
-  -- with a refusal: it is 1, and nothing was written
-  pub walks_refused : Walks s out false r out' → (r.refusal ≡ 0 → ⊥) → Gives (Good s) out r out'
-  walks_refused w h = cases (ltb (length out) (length s)) refl
-    where
-      cases : (t : Bool) → ltb (length out) (length s) ≡ t → Gives (Good s) out r out'
-      cases true e = record { answer = w.answer; bytes = w.bytes ∙ sym (ap (λ (b : Bool). over (bytes_of (cond b (Refused 1) (Good s))) out) e) }
-      cases false e = absurd (h (ap (λ (x : Answer). x.refusal) (answered false e w.answer)))
-
-  pub walks_good : length s ≤ length out → Walks s out true r out' → Gives (Good s) out r out'
-  walks_good h w = record { answer = w.answer; bytes = w.bytes ∙ sym (simp (le-ltb (length out) (length s) h)) }
 
 -- ---- the picker, by its tests
 

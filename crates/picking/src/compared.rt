@@ -3,6 +3,7 @@ ghost use Rattle.std.specs.Prelude.{◌≡◌, ◌+◌, ◌≤◌, length, take,
 ghost use Rattle.picking.specs.Pick.{same, is_withheld};
 
 // The two are the same bytes.
+#[tactic(auto, using(crate::proofs::Same::same_length, crate::proofs::Same::same_more, crate::proofs::Same::same_not, crate::proofs::Same::same_done))]
 fn same_bytes(a: &[u8], b: &[u8]) -> bool
     ensures { result ≡ same a.now b.now }
 {
@@ -37,6 +38,7 @@ pub(crate) fn same_tag(
 }
 
 // Picking never writes an object of this tag: the two tracks and the card's number.
+#[tactic(auto, unfolding(crate::specs::Pick::is_withheld))]
 pub(crate) fn withheld(tag: &[u8]) -> bool
     ensures { result ≡ is_withheld tag.now }
 {

@@ -6,6 +6,7 @@ use objects::read_object;
 use objects::tags::tag_size;
 
 // 30 where the bytes are not tags one after another, else 0.
+#[tactic(auto, using(crate::proofs::Lists::tag_sizes, crate::proofs::Lists::fault_done))]
 pub(crate) fn tags_refusal(tags: &[u8]) -> u8
     ensures { result ≡ tags_refusal tags.now }
 {
@@ -21,6 +22,7 @@ pub(crate) fn tags_refusal(tags: &[u8]) -> u8
 }
 
 // The number of what is wrong with the first bad object, 0 where all are good.
+#[tactic(auto, using(crate::proofs::Lists::whole_inside, crate::proofs::Lists::whole_some, crate::proofs::Lists::object_sizes, crate::proofs::Lists::fault_done))]
 pub(crate) fn objects_refusal(objects: &[u8]) -> u8
     ensures { result ≡ objects_refusal objects.now }
 {

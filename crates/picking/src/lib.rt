@@ -12,6 +12,7 @@ use answer::{Answer, refused};
 
 // Writes, for each tag of the list `tags` in order, the first object of the list `objects` with that tag to the start of `out`. Tags that
 // are absent, and the objects that are withheld, write nothing. Refusals in this order: 30 for the tags, 30 to 32 for the objects, 1.
+#[tactic(auto, using(crate::proofs::Lists::tags_whole, crate::proofs::Lists::objects_whole, crate::proofs::Walking::walks_fits), unfolding(crate::specs::Pick::pick))]
 pub fn pick(tags: &[u8], objects: &[u8], out: &mut [u8]) -> Answer
     ensures { Gives (pick tags.now objects.now) out.old result out.new }
 {

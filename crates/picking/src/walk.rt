@@ -13,6 +13,7 @@ use objects::tags::tag_size;
 use objects::{ObjectRead, read_object};
 
 // The size of the tag at `i` of a whole tag list.
+#[tactic(auto, using(crate::proofs::Lists::piece_at, crate::proofs::Lists::tag_sizes, answer::proofs::Parts::rest_part))]
 fn tag_at(tags: &[u8], i: usize) -> usize
     requires { (i < length tags.now) × (rest tag_size (drop i tags.now) ≡ []) }
     ensures { Piece tag_size tags.now i result }
@@ -21,6 +22,7 @@ fn tag_at(tags: &[u8], i: usize) -> usize
 }
 
 // The object at `j` of a whole object list.
+#[tactic(auto, using(crate::proofs::Lists::object_there))]
 fn object_at(objects: &[u8], j: usize) -> ObjectRead
     requires { (j < length objects.now) × (rest object_size (drop j objects.now) ≡ []) }
     ensures { ObjectAt objects.now j result }
@@ -29,6 +31,7 @@ fn object_at(objects: &[u8], j: usize) -> ObjectRead
 }
 
 // How many bytes picking writes of the object at `j`. No length has two forms, so an object that reads is written as it stands.
+#[tactic(auto, using(crate::proofs::Walking::shows_none))]
 fn shown_size(objects: &[u8], j: usize, object: ObjectRead) -> usize
     requires { ObjectAt objects.now j object }
     ensures { Shows objects.now j object result }

@@ -3,23 +3,25 @@ ghost use Rattle.std.specs.Prelude.{◌≤◌, length};
 
 use answer::Answer;
 use objects::ObjectRead;
+use std::io;
+use std::io::Write;
 
 const DIGITS: [u8; 16] = *b"0123456789ABCDEF";
 
 // A comment of the script.
-pub fn comment(line: &[u8]) {
-    io::write_all(1, line);
-    io::write_all(1, b"\n");
+pub fn comment<W: Write>(output: &mut W, line: &[u8]) -> io::Result<()> {
+    output.write_all(line)?;
+    output.write_all(b"\n")
 }
 
 // A line of the script that is no call.
-pub fn bad_line() {
-    io::write_all(1, b"bad line\n");
+pub fn bad_line<W: Write>(output: &mut W) -> io::Result<()> {
+    output.write_all(b"bad line\n")
 }
 
 // The end of a script that may have gone on.
-pub fn too_long() {
-    io::write_all(1, b"script too long\n");
+pub fn too_long<W: Write>(output: &mut W) -> io::Result<()> {
+    output.write_all(b"script too long\n")
 }
 
 // Puts a byte at `at` and answers where the next goes. What has no room is left out.
@@ -33,11 +35,28 @@ fn put_byte(text: &mut [u8], at: usize, b: u8) -> usize
     text.len()
 }
 
+// Writes the decimal digits of `n` to the end of `digits`, and answers where they begin. No number of 64 bits has more than twenty.
+fn decimal(n: u64, digits: &mut [u8; 20]) -> usize
+    ensures { result ≤ 20 }
+{
+    let mut at = 20;
+    let mut rest = n;
+    while 0 < at {
+        at -= 1;
+        digits[at] = DIGITS[(rest % 10) as usize];
+        rest /= 10;
+        if rest == 0 {
+            break;
+        }
+    }
+    at
+}
+
 // Puts `n` in decimal.
 fn put_number(text: &mut [u8], from: usize, n: u64) -> usize {
     let mut digits = [0u8; 20];
-    let count = io::decimal(n, &mut digits);
-    put_bytes(text, from, &digits[..count])
+    let first = decimal(n, &mut digits);
+    put_bytes(text, from, &digits[first..])
 }
 
 // Puts `bytes` as they are.
@@ -78,7 +97,7 @@ fn put_buffer(text: &mut [u8], from: usize, bytes: &[u8]) -> usize {
 }
 
 // The line of a call: what it answered, and the whole buffer afterwards.
-pub fn answered(answer: Answer, out: &[u8]) {
+pub fn answered<W: Write>(output: &mut W, answer: Answer, out: &[u8]) -> io::Result<()> {
     // The longest line: three digits, twenty digits, two for each of 8192 bytes, two spaces and the line end.
     let mut text = [0u8; 16410];
     let mut at = put_number(&mut text, 0, answer.refusal as u64);
@@ -87,11 +106,11 @@ pub fn answered(answer: Answer, out: &[u8]) {
     at = put_byte(&mut text, at, b' ');
     at = put_buffer(&mut text, at, out);
     at = put_byte(&mut text, at, b'\n');
-    io::write_all(1, &text[0..at]);
+    output.write_all(&text[0..at])
 }
 
 // The line of an object that was read: the refusal and the three lengths.
-pub fn object(read: ObjectRead) {
+pub fn object<W: Write>(output: &mut W, read: ObjectRead) -> io::Result<()> {
     // Four numbers of at most twenty digits, three spaces and the line end.
     let mut text = [0u8; 84];
     let mut at = put_number(&mut text, 0, read.refusal as u64);
@@ -102,5 +121,5 @@ pub fn object(read: ObjectRead) {
     at = put_byte(&mut text, at, b' ');
     at = put_number(&mut text, at, read.whole as u64);
     at = put_byte(&mut text, at, b'\n');
-    io::write_all(1, &text[0..at]);
+    output.write_all(&text[0..at])
 }

@@ -21,17 +21,41 @@ mod calls;
 mod fields;
 mod log;
 
-ghost use Rattle.std.specs.Prelude.{◌≡◌, length};
+ghost use Rattle.std.specs.Prelude.{◌≡◌, ◌<◌, ◌≤◌, length, take, IfOk};
+ghost use Rattle.std.specs.Io.KnownBytes.{Consumes, IsAtEnd};
+
+use std::io;
+use std::io::{BufWriter, Read, Write};
 
 // Reads the script and runs it. A full buffer can't tell whether the script went on: what was read is run, its last
-// line as it was cut, and the log then ends with `script too long`.
-fn main() {
+// line as it was cut, and the log then ends with `script too long`. A read or a write that fails ends the program.
+fn main(rt: HostRuntime) -> io::Result<()> {
     let mut script = empty_script();
-    let n = io::read_full(0, &mut script);
-    run_script(&script[..n]);
+    let mut input = rt.stdin();
+    let n = read_full(&mut input, &mut script)?;
+    let mut output = BufWriter::new(rt.alloc(), rt.stdout())?;
+    run_script(&mut output, &script[..n])?;
     if n == 1048576 {
-        log::too_long();
+        log::too_long(&mut output)?;
     }
+    output.flush()
+}
+
+// Reads until `room` is full or the input ends, and answers how many bytes were put at the start of `room`.
+fn read_full<R: Read>(input: &mut R, room: &mut [u8]) -> io::Result<usize>
+    ensures in_bounds { IfOk result (λ n. n ≤ length room.new) }
+    ensures bytes { IfOk result (λ n. Consumes (R.remaining input.old) (R.remaining input.new) (take n room.new)) }
+    ensures end { IfOk result (λ n. n < length room.new → IsAtEnd (R.remaining input.new)) }
+{
+    let mut done = 0;
+    while done < room.len() {
+        let n = input.read(&mut room[done..])?;
+        if n == 0 {
+            break;
+        }
+        done += n;
+    }
+    Ok(done)
 }
 
 // Room for the longest script. Its `ensures` is all that `main` has to know of so long a list.
@@ -42,33 +66,33 @@ fn empty_script() -> [u8; 1048576]
 }
 
 // Runs each line of `script`.
-fn run_script(script: &[u8]) {
+fn run_script<W: Write>(output: &mut W, script: &[u8]) -> io::Result<()> {
     let mut at = 0;
     while at < script.len() {
         let rest = &script[at..];
         let n = fields::line_length(rest);
-        run_line(&rest[0..n]);
+        run_line(output, &rest[0..n])?;
         at += n + 1;
     }
+    Ok(())
 }
 
 // Runs one line. Its first byte names the call.
-fn run_line(line: &[u8]) {
+fn run_line<W: Write>(output: &mut W, line: &[u8]) -> io::Result<()> {
     if line.len() == 0 {
-        log::bad_line();
-        return;
+        return log::bad_line(output);
     }
     let call = line[0];
     match call {
-        b'#' => log::comment(line),
-        b'W' => calls::run_one(call, line),
-        b'R' => calls::run_one(call, line),
-        b'M' => calls::run_one(call, line),
-        b'L' => calls::run_two(call, line),
-        b'T' => calls::run_two(call, line),
-        b'P' => calls::run_two(call, line),
-        b'F' => calls::run_find(line),
-        b'O' => calls::run_object(line),
-        _ => log::bad_line(),
+        b'#' => log::comment(output, line),
+        b'W' => calls::run_one(output, call, line),
+        b'R' => calls::run_one(output, call, line),
+        b'M' => calls::run_one(output, call, line),
+        b'L' => calls::run_two(output, call, line),
+        b'T' => calls::run_two(output, call, line),
+        b'P' => calls::run_two(output, call, line),
+        b'F' => calls::run_find(output, line),
+        b'O' => calls::run_object(output, line),
+        _ => log::bad_line(output),
     }
 }

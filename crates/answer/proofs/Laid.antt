@@ -5,7 +5,7 @@ use Prim.Native.Nat.{ℕ, suc, ◌+◌, ◌≤◌, ◌<◌}
 use native.Mathlib.Omega.{arith}
 use native.Mathlib.Nat.{zero-add, add-zero}
 use native.Mathlib.Numerals.{add-one}
-use lib.ListN.{length, take, drop, length-drop, set, length-append, take-append-drop}
+use lib.ListN.{length, take, length-drop, set, length-append, take-append-drop}
 use lib.Seq.{length-take-le, take-append_seam, drop-append-add, drop-drop, sets-eq}
 use Rattle.answer.specs.Answers.{over}
 use borrow.Author.Tests.{lt-leb, le-leb}

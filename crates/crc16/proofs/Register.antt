@@ -1,11 +1,11 @@
 -- The laws of a register that is fed with bits.
 use mathlib.Core.Path.{◌≡◌, refl, sym, ap, ap₂, ◌∙◌}
-use mathlib.Core.Bool.{Bool, true, false, not}
+use mathlib.Core.Bool.{Bool, true, false}
 use mathlib.Core.List.{List, [], ◌∷◌, ◌++◌, append_cancel_right}
 use Prim.Native.Nat.{ℕ, zero, suc, ◌+◌, ◌≤◌}
 use native.Mathlib.Nat.{zero-add, suc-add}
 use native.Mathlib.Omega.{arith}
-use lib.ListN.{length, get_or, replicate, length-append, length-replicate, replicate-append-replicate}
+use lib.ListN.{length, get_or, replicate, length-append, replicate-append-replicate}
 use lib.Seq.{get_or_at}
 use Rattle.crc16.specs.Crc.{xor, ◌⊕◌, zeros, generator, divide, remainder}
 use Rattle.crc16.specs.Register.{fed}

@@ -4,10 +4,10 @@ use mathlib.Core.Bool.{Bool}
 use mathlib.Core.List.{List, [], ◌∷◌, ◌++◌, append-nil, append_assoc}
 use Prim.Native.Nat.{ℕ, ◌%◌, ◌^◌, ◌<◌}
 use native.Mathlib.Omega.{arith}
-use lib.ListN.{length, length-replicate}
-use Rattle.crc16.specs.Crc.{zeros, generator, divide, ◌⊕◌, remainder, odd, bits, bits_of, number, check}
+use lib.ListN.{length}
+use Rattle.crc16.specs.Crc.{zeros, divide, remainder, odd, bits, bits_of, number, check}
 use Rattle.crc16.specs.Register.{fed, stepped, register_after}
-use Rattle.crc16.proofs.Bits.{bits_length, number_bits, bits_number}
+use Rattle.crc16.proofs.Bits.{number_bits, bits_number}
 use Rattle.crc16.proofs.Register.{fed_append, fed_zeros, fed_length}
 
 -- the bits of bytes after bytes

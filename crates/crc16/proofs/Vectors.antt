@@ -1,7 +1,6 @@
 -- Worked examples of the definition, by computation.
 use mathlib.Core.Path.{◌≡◌, refl}
-use mathlib.Core.List.{List, [], ◌∷◌, ◌++◌}
-use Prim.Native.Nat.{ℕ}
+use mathlib.Core.List.{[], ◌∷◌, ◌++◌}
 use Rattle.crc16.specs.Crc.{◌⊕◌, zeros, generator, divide, remainder, odd, bits, bits_of, number, check}
 
 -- the generator is 1021h with the bit above it

@@ -2,11 +2,11 @@
 use mathlib.Core.Path.{◌≡◌, refl, sym, ap, ◌∙◌}
 use mathlib.Core.Bool.{Bool, true, false, cond}
 use mathlib.Core.List.{List}
-use Prim.Native.Nat.{ℕ, suc, ◌+◌, ◌≤◌}
+use Prim.Native.Nat.{ℕ, ◌≤◌}
 use native.Mathlib.Omega.{arith}
 use lib.ListN.{get_or, drop}
-use lib.Dec.{leb, eqb}
-use borrow.Author.Tests.{leb-false}
+use lib.Dec.{eqb}
+use Rattle.std.proofs.lemmas.Bool.Decides.{nat_tests}
 use Rattle.reception.specs.declared.Reception.{Reception}
 use Rattle.reception.specs.declared.Reception.TheVariants.{Idle, InData, After13h, FirstCheck, SecondCheck}
 use Rattle.reception.specs.declared.Line.{Line}
@@ -14,7 +14,7 @@ use Rattle.reception.specs.declared.Told.{Told}
 use Rattle.reception.specs.declared.Told.TheVariants.{Nothing, Payload, Complete}
 use Rattle.reception.specs.declared.Took.{Took}
 use Rattle.reception.specs.Cases.{code_of, first_of, reception_of, told_of, answer_of}
-use Rattle.reception.specs.Reception.{line_of, took_of, idle, started, going_on, spoiled_in, placed, from_idle, from_data, from13h, taken_in, taken}
+use Rattle.reception.specs.Reception.{line_of, took_of, idle, placed, from_idle, from_data, from13h, taken_in, taken}
 
 -- ---- the numbers and values of the enums' cases stand for one case each
 
@@ -67,42 +67,19 @@ idle_line_one r s e f = e ∙ sym f
 
 placed_within : (line : Line) (b : ℕ) → line.count ≤ 2048 → (placed line b).line.count ≤ 2048
 unfolding placed
-placed_within line b h = cases (leb 2048 line.count) refl
-  where
-    cases : (t : Bool) → leb 2048 line.count ≡ t → (cond t (spoiled_in line InData) (record { line = record { state = InData; spoiled = line.spoiled; count = line.count + 1 }; told = Payload line.count b })).line.count ≤ 2048
-    cases true e = h
-    cases false e = let k = leb-false 2048 line.count e in omega arith
+placed_within line b h = grind (arith, nat_tests)
 
 data_within : (line : Line) (b : ℕ) → line.count ≤ 2048 → (from_data line b).line.count ≤ 2048
 unfolding from_data
-data_within line b h = cases (eqb b 0x16) (eqb b 0x17) (eqb b 0x13)
-  where
-    cases : (x y z : Bool) → (cond x started (cond y (going_on line FirstCheck) (cond z (going_on line After13h) (placed line b)))).line.count ≤ 2048
-    cases true y z = omega arith
-    cases false true z = h
-    cases false false true = h
-    cases false false false = placed_within line b h
+data_within line b h = grind (arith, nat_tests, placed_within)
 
 pair_within : (line : Line) (b : ℕ) → line.count ≤ 2048 → (from13h line b).line.count ≤ 2048
 unfolding from13h
-pair_within line b h = cases (eqb b 0x16) (eqb b 0x17) (eqb b 0x33) (eqb b 0x36) (eqb b 0x37)
-  where
-    cases : (v w x y z : Bool)
-        → (cond v started (cond w (spoiled_in line FirstCheck) (cond x (placed line 0x13) (cond y (placed line 0x16) (cond z (placed line 0x17) (spoiled_in line InData)))))).line.count ≤ 2048
-    cases true w x y z = omega arith
-    cases false true x y z = h
-    cases false false true y z = placed_within line 0x13 h
-    cases false false false true z = placed_within line 0x16 h
-    cases false false false false true = placed_within line 0x17 h
-    cases false false false false false = h
+pair_within line b h = grind (arith, nat_tests, placed_within)
 
 idle_within : (line : Line) (b : ℕ) → line.count ≤ 2048 → (from_idle line b).line.count ≤ 2048
 unfolding from_idle
-idle_within line b h = cases (eqb b 0x16)
-  where
-    cases : (t : Bool) → (cond t started (going_on line Idle)).line.count ≤ 2048
-    cases true = omega arith
-    cases false = h
+idle_within line b h = grind (arith, nat_tests)
 
 in_within : (state : Reception) (line : Line) (b : ℕ) → line.count ≤ 2048 → (taken_in state line b).line.count ≤ 2048
 in_within Idle line b h = idle_within line b h

@@ -96,6 +96,7 @@ fn spoil(line: Line, state: Reception) -> Took
 }
 
 // A payload byte: it goes to the next place, and where there is none left it spoils the packet.
+#[tactic(auto, unfolding(crate::specs::Reception::placed))]
 fn place(line: Line, b: u8) -> Took
     ensures { result ≡ placed line b }
 {
@@ -114,6 +115,7 @@ fn place(line: Line, b: u8) -> Took
 }
 
 // A byte between packets.
+#[tactic(auto, unfolding(crate::specs::Reception::from_idle))]
 fn from_idle(line: Line, b: u8) -> Took
     ensures { result ≡ from_idle line b }
 {

@@ -24,6 +24,7 @@ pub enum Command {
 }
 
 // Whether `p` starts with `s`.
+#[tactic(auto, using(crate::proofs::Texts::starts_short, crate::proofs::Texts::starts_more, crate::proofs::Texts::starts_not, crate::proofs::Texts::starts_done))]
 pub fn starts_with(p: &[u8], s: &[u8]) -> bool
     ensures { result ≡ starts s.now p.now }
 {
@@ -41,6 +42,7 @@ pub fn starts_with(p: &[u8], s: &[u8]) -> bool
 }
 
 // Whether each byte is one of a text. No byte ends the walk, so that many are taken at a time.
+#[tactic(auto, using(crate::proofs::Texts::text_more, crate::proofs::Texts::text_done))]
 pub fn all_text(s: &[u8]) -> bool
     ensures { result ≡ all_text s.now }
 {
@@ -78,6 +80,7 @@ fn three_digits(s: &[u8]) -> usize
 }
 
 // Whether `p` is GTS with its layout.
+#[tactic(auto, unfolding(crate::specs::Command::gts_good))]
 fn gts_good(p: &[u8]) -> bool
     ensures { result ≡ gts_good p.now }
 {
@@ -88,6 +91,7 @@ fn gts_good(p: &[u8]) -> bool
 }
 
 // Whether `p` is TLI with its layout.
+#[tactic(auto, unfolding(crate::specs::Command::tli_good))]
 fn tli_good(p: &[u8]) -> bool
     ensures { result ≡ tli_good p.now }
 {
@@ -98,6 +102,7 @@ fn tli_good(p: &[u8]) -> bool
 }
 
 // Whether `p`, whose name is TLR, has its layout.
+#[tactic(auto, unfolding(crate::specs::Command::tlr_good))]
 fn tlr_good(p: &[u8]) -> bool
     ensures { result ≡ tlr_good p.now }
 {
@@ -121,6 +126,7 @@ fn opn(p: &[u8]) -> Command
 }
 
 // The command of a payload that starts with GTS.
+#[tactic(auto, unfolding(crate::specs::Command::gts_good))]
 fn gts(p: &[u8]) -> Command
     ensures { result ≡ gts_of p.now }
 {
@@ -132,6 +138,7 @@ fn gts(p: &[u8]) -> Command
 }
 
 // The command of a payload that starts with TLI.
+#[tactic(auto, unfolding(crate::specs::Command::tli_good))]
 fn tli(p: &[u8]) -> Command
     ensures { result ≡ tli_of p.now }
 {
@@ -165,6 +172,7 @@ fn tle(p: &[u8]) -> Command
 }
 
 // Which command `payload` is.
+#[tactic(auto, unfolding(crate::specs::Command::command_of))]
 pub fn command_of(payload: &[u8]) -> Command
     ensures { row_of result ≡ row_of (command_of payload.now) }
 {

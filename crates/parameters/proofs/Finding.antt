@@ -1,5 +1,5 @@
 -- The laws of finding a parameter: a walk over the parameters, and the part that is handed back.
-use mathlib.Core.Path.{◌≡◌, refl, sym, ap, ◌∙◌, subst}
+use mathlib.Core.Path.{◌≡◌, refl, sym, ap, ◌∙◌}
 use mathlib.Core.Bool.{Bool, true, false, cond}
 use mathlib.Core.List.{List, [], ◌∷◌}
 use Prim.Native.Nat.{ℕ, zero, suc, ◌+◌, ◌-◌, ◌≤◌}
@@ -8,15 +8,12 @@ use lib.ListN.{length, take, drop, length-drop, length-take}
 use lib.Seq.{get_or-take, get_or-drop}
 use lib.Dec.{eqb}
 use borrow.Author.Tests.{eq-eqb, ne_eqb, eqb-true, eqb-false}
-use Rattle.answer.specs.Answers.{Result}
 use Rattle.answer.specs.Answers.Result.{Good, Refused}
 use Rattle.answer.specs.Laid.{PieceAt}
 use Rattle.answer.proofs.Pieces.{piece_more, piece_none}
 use Rattle.answer.proofs.Promises.{same_good, not_good, Numbered}
 use Rattle.parameters.specs.Parameters.{two_at, parameter_in, parameters, whole_list, number_of, data_of}
 use Rattle.parameters.specs.Finding.{numbered, nth, find, data_at, start_of}
-use Rattle.parameters.specs.declared.search.Place.{Place}
-use Rattle.parameters.specs.Steps.{Placed, no_place}
 use Rattle.answer.proofs.Parts.{inner_part}
 use Rattle.parameters.proofs.Parameters.{parameter_le, parameter_four, parameter_there, piece_long}
 
@@ -54,18 +51,18 @@ data_zero number n at (p ∷ ps) e =
 
 -- ---- a walk: the parameter at a place, of r bytes
 
-module _ (s : List ℕ) (at r number : ℕ) (p : PieceAt parameter_in s at r) where
+module _ (s : List ℕ) (at r number : ℕ) (p : r ≡ parameter_in (drop at s)) where
   pub numbered_none : r ≡ 0 → numbered number (parameters (drop at s)) ≡ []
   unfolding numbered
-  numbered_none z = rw (piece_none parameter_in parameter_le s at r p.is z) refl
+  numbered_none z = rw (piece_none parameter_in parameter_le s at r p z) refl
 
   pub data_none : (n : ℕ) → r ≡ 0 → data_at number n at (parameters (drop at s)) ≡ 0
   unfolding data_at
-  data_none n z = rw (piece_none parameter_in parameter_le s at r p.is z) refl
+  data_none n z = rw (piece_none parameter_in parameter_le s at r p z) refl
 
   module _ (some : r ≡ 0 → ⊥) where
     pub four : 4 ≤ r
-    four = let e = p.is in omega (arith, parameter_four (drop at s) (λ z. some (p.is ∙ z)))
+    four = omega (arith, p, parameter_four (drop at s) (λ z. some (p ∙ z)))
 
     number_is : number_of (take r (drop at s)) ≡ two_at s at
     number_is =
@@ -75,40 +72,31 @@ module _ (s : List ℕ) (at r number : ℕ) (p : PieceAt parameter_in s at r) wh
 
     pub numbered_this : two_at s at ≡ number → numbered number (parameters (drop at s)) ≡ take r (drop at s) ∷ numbered number (parameters (drop (at + r) s))
     unfolding numbered
-    numbered_this e = rw (piece_more parameter_in parameter_le s at r p.is some, number_is, eq-eqb (two_at s at) number e) refl
+    numbered_this e = rw (piece_more parameter_in parameter_le s at r p some, number_is, eq-eqb (two_at s at) number e) refl
 
     pub numbered_other : (two_at s at ≡ number → ⊥) → numbered number (parameters (drop at s)) ≡ numbered number (parameters (drop (at + r) s))
     unfolding numbered
-    numbered_other e = rw (piece_more parameter_in parameter_le s at r p.is some, number_is, ne_eqb (two_at s at) number e) refl
+    numbered_other e = rw (piece_more parameter_in parameter_le s at r p some, number_is, ne_eqb (two_at s at) number e) refl
 
     -- the data of this parameter, as a part of the list
     pub data_part : take (at + r - (at + 4)) (drop (at + 4) s) ≡ data_of (take r (drop at s))
     data_part = inner_part s at 4 r
 
     module _ (n : ℕ) where
+      pub nth_this : two_at s at ≡ number → n ≡ 1 → nth n (numbered number (parameters (drop at s))) ≡ Good (data_of (take r (drop at s)))
+      nth_this e f = ap (nth n) (numbered_this e) ∙ nth_first n (take r (drop at s)) (numbered number (parameters (drop (at + r) s))) f
+
       pub data_this : two_at s at ≡ number → n ≡ 1 → data_at number n at (parameters (drop at s)) ≡ at + 4
       unfolding data_at
-      data_this e f = rw (piece_more parameter_in parameter_le s at r p.is some, number_is, eq-eqb (two_at s at) number e, eq-eqb n 1 f) refl
+      data_this e f = rw (piece_more parameter_in parameter_le s at r p some, number_is, eq-eqb (two_at s at) number e, eq-eqb n 1 f) refl
 
       pub data_later : two_at s at ≡ number → (n ≡ 1 → ⊥) → data_at number n at (parameters (drop at s)) ≡ data_at number (n - 1) (at + r) (parameters (drop (at + r) s))
       unfolding data_at
-      data_later e f = rw (piece_more parameter_in parameter_le s at r p.is some, number_is, eq-eqb (two_at s at) number e, ne_eqb n 1 f, piece_long s at r p) refl
+      data_later e f = rw (piece_more parameter_in parameter_le s at r p some, number_is, eq-eqb (two_at s at) number e, ne_eqb n 1 f, piece_long s at r p) refl
 
       pub data_other : (two_at s at ≡ number → ⊥) → data_at number n at (parameters (drop at s)) ≡ data_at number n (at + r) (parameters (drop (at + r) s))
       unfolding data_at
-      data_other e = rw (piece_more parameter_in parameter_le s at r p.is some, number_is, ne_eqb (two_at s at) number e, piece_long s at r p) refl
-
--- ---- the place that the search answers
-
-pub placed_none : (list : List ℕ) (found : Result) (first n : ℕ) (r : Place) → found ≡ Refused n → first ≡ 0 → r ≡ no_place n → Placed list found first r
-placed_none list found first n r e g f =
-    subst (λ (x : Place). Placed list found first x) (sym f)
-    (subst (λ (x : Result). Placed list x first (no_place n)) (sym e)
-    (record { starts = sym g; number = refl; bytes = refl; ordered = omega arith; within = omega arith }))
-
-pub placed_as : (list : List ℕ) (found other : Result) (first first' : ℕ) (r : Place) → other ≡ found → first' ≡ first → Placed list found first r → Placed list other first' r
-placed_as list found other first first' r e f p =
-    subst (λ (k : ℕ). Placed list other k r) (sym f) (subst (λ (x : Result). Placed list x first r) (sym e) p)
+      data_other e = rw (piece_more parameter_in parameter_le s at r p some, number_is, ne_eqb (two_at s at) number e, piece_long s at r p) refl
 
 -- ---- what is found stands in the list where its place says
 
@@ -121,38 +109,38 @@ module _ (s : List ℕ) (number : ℕ) (d : List ℕ) where
 
   module _ (at n r : ℕ) (p : PieceAt parameter_in s at r) where
     found_end : r ≡ 0 → Found at n
-    found_end z e = absurd (not_good (sym (nth_none n) ∙ ap (nth n) (sym (numbered_none s at r number p z)) ∙ e))
+    found_end z e = absurd (not_good (sym (nth_none n) ∙ ap (nth n) (sym (numbered_none s at r number p.is z)) ∙ e))
 
     module _ (some : r ≡ 0 → ⊥) where
       found_first : two_at s at ≡ number → n ≡ 1 → Found at n
       found_first h o e =
           let ps = numbered number (parameters (drop (at + r) s)) in
           let q : data_of (take r (drop at s)) ≡ d =
-          same_good (sym (nth_first n (take r (drop at s)) ps o) ∙ ap (nth n) (sym (numbered_this s at r number p some h)) ∙ e) in
-          let f = four s at r number p some in
+          same_good (sym (nth_first n (take r (drop at s)) ps o) ∙ ap (nth n) (sym (numbered_this s at r number p.is some h)) ∙ e) in
+          let f = four s at r number p.is some in
           let w = p.within in
           let m : length d ≡ at + r - (at + 4) =
           ap (λ (x : List ℕ). length x) (sym q) ∙ simp (length-drop, length-take) (omega arith) in
-          rw (data_this s at r number p some n h o, m) (data_part s at r number p some ∙ q)
+          rw (data_this s at r number p.is some n h o, m) (data_part s at r number p.is some ∙ q)
 
       found_later : two_at s at ≡ number → (n ≡ 1 → ⊥) → Found (at + r) (n - 1) → Found at n
       found_later h o ih e =
           let ps = numbered number (parameters (drop (at + r) s)) in
-          let l = ap (nth n) (sym (numbered_this s at r number p some h)) ∙ e in
-          rw (data_later s at r number p some n h o) (ih (sym (nth_later n (take r (drop at s)) ps (positive n l) o) ∙ l))
+          let l = ap (nth n) (sym (numbered_this s at r number p.is some h)) ∙ e in
+          rw (data_later s at r number p.is some n h o) (ih (sym (nth_later n (take r (drop at s)) ps (positive n l) o) ∙ l))
         where
           positive : (n : ℕ) → nth n (take r (drop at s) ∷ numbered number (parameters (drop (at + r) s))) ≡ Good d → 1 ≤ n
           positive zero f = absurd (not_good (sym (nth_zero 0 (take r (drop at s) ∷ numbered number (parameters (drop (at + r) s))) refl) ∙ f))
           positive (suc n) f = omega arith
 
       found_other : (two_at s at ≡ number → ⊥) → Found (at + r) n → Found at n
-      found_other h ih e = rw (data_other s at r number p some n h) (ih (ap (nth n) (sym (numbered_other s at r number p some h)) ∙ e))
+      found_other h ih e = rw (data_other s at r number p.is some n h) (ih (ap (nth n) (sym (numbered_other s at r number p.is some h)) ∙ e))
 
       found_on : (k : ℕ) → length s - at ≤ suc k → FoundTo k → Found at n
       found_on k h ih = cases (eqb (two_at s at) number) (eqb n 1) refl refl
         where
           next : (m : ℕ) → Found (at + r) m
-          next m = let f = four s at r number p some in ih (at + r) m p.within (omega arith)
+          next m = let f = four s at r number p.is some in ih (at + r) m p.within (omega arith)
 
           cases : (a b : Bool) → eqb (two_at s at) number ≡ a → eqb n 1 ≡ b → Found at n
           cases true true e f = found_first (eqb-true (two_at s at) number e) (eqb-true n 1 f)

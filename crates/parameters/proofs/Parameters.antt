@@ -4,7 +4,7 @@ use mathlib.Core.Bool.{Bool, true, false, ◌&&◌, cond, false≢true}
 use mathlib.Core.List.{List, [], ◌∷◌, ◌++◌, flatten}
 use Prim.Native.Nat.{ℕ, ◌+◌, ◌≤◌}
 use native.Mathlib.Omega.{arith}
-use lib.ListN.{length, take, drop, length-append, length-drop, get_or-append}
+use lib.ListN.{length, take, drop, length-append, get_or-append}
 use lib.Seq.{length-take-le, get_or-take}
 use lib.Dec.{leb}
 use borrow.Author.Tests.{le-leb, leb-true}
@@ -137,8 +137,8 @@ pub parameter_there : (s : List ℕ) (at n : ℕ) → at ≤ length s → n ≡ 
 parameter_there s at n h e = record { is = e; within = within parameter_in parameter_le s at n e h }
 
 -- it ends within the list
-pub parameter_ends : (s : List ℕ) (at n : ℕ) → at ≤ length s → n ≡ parameter_in (drop at s) → at + n ≤ length s
-parameter_ends s at n h e = within parameter_in parameter_le s at n e h
+pub parameter_ends : (s : List ℕ) (at : ℕ) → at ≤ length s → parameter_in (drop at s) + at ≤ length s
+parameter_ends s at h = omega (arith, within parameter_in parameter_le s at (parameter_in (drop at s)) refl h)
 
-pub piece_long : (s : List ℕ) (at n : ℕ) → PieceAt parameter_in s at n → length (take n (drop at s)) ≡ n
-piece_long s at n p = let w = p.within in length-take-le n (drop at s) (simp length-drop (omega arith))
+pub piece_long : (s : List ℕ) (at n : ℕ) → n ≡ parameter_in (drop at s) → length (take n (drop at s)) ≡ n
+piece_long s at n e = length-take-le n (drop at s) (omega (arith, e, parameter_le (drop at s)))

@@ -34,6 +34,7 @@ pub fn parameter_at(s: &[u8], at: usize) -> usize
 }
 
 // Whether `list` is parameters and nothing else.
+#[tactic(auto, using(answer::proofs::Pieces::whole_more, answer::proofs::Pieces::whole_stop, answer::proofs::Pieces::whole_end, crate::proofs::Parameters::parameter_le, crate::proofs::Parameters::parameter_ends))]
 pub fn whole_list(list: &[u8]) -> bool
     ensures { result ≡ whole_list list.now }
 {

@@ -26,7 +26,7 @@ fn no_place(number: u8) -> Place
 }
 
 // The place of the data of the nth parameter of this number, in a list that is whole.
-#[tactic(auto, using(crate::proofs::Parameters::parameter_ends))]
+#[tactic(auto, using(crate::proofs::Parameters::parameter_ends, crate::proofs::Parameters::parameter_four, crate::proofs::Finding::nth_zero, crate::proofs::Finding::nth_none, crate::proofs::Finding::nth_later, crate::proofs::Finding::data_zero, crate::proofs::Finding::numbered_none, crate::proofs::Finding::data_none, crate::proofs::Finding::numbered_this, crate::proofs::Finding::numbered_other, crate::proofs::Finding::data_part, crate::proofs::Finding::nth_this, crate::proofs::Finding::data_this, crate::proofs::Finding::data_later, crate::proofs::Finding::data_other))]
 fn find_nth(list: &[u8], number: usize, n: usize) -> Place
     ensures { Placed list.now (nth n (numbered number (parameters list.now))) (data_at number n 0 (parameters list.now)) result }
 {

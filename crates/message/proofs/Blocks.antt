@@ -15,7 +15,7 @@ use Rattle.parameters.specs.Parameters.{whole_list}
 use Rattle.answer.specs.Digits.{is_digit, three_at}
 use Rattle.answer.specs.Claims.{AllPieces}
 use Rattle.message.specs.Blocks.{is_length, block_in, blocks_of, three_of, block_of}
-use Rattle.answer.proofs.Parts.{and_left, and_right, inner_part}
+use Rattle.answer.proofs.Parts.{and_left, and_right, inner_part, piece_at}
 
 -- ---- the size of a block
 
@@ -34,6 +34,10 @@ block_le xs = cases (leb 3 (length xs)) (is_length xs) (leb (3 + three_at xs) (l
     cases true true false e = omega arith
     cases true false c e = omega arith
     cases false b c e = omega arith
+
+-- what is told of the list from a place on
+pub block_there : (s : List ℕ) (at n : ℕ) → at ≤ length s → n ≡ block_in (take (length s - at) (drop at s)) → PieceAt block_in s at n
+block_there s at n h e = piece_at block_in block_le s at n h e
 
 record Block (xs : List ℕ) : Type 0 where
   long : 3 ≤ length xs
@@ -248,9 +252,15 @@ module _ (s : List ℕ) (at n : ℕ) (p : PieceAt block_in s at n) where
     held_long : length held ≡ n - 3
     held_long = let w = p.within in simp (length-take, length-drop) (omega (arith, three))
 
-    pub lists_more : (t : Bool) → t ≡ whole_list held → every whole_list (blocks_of (drop at s)) ≡ (t && every whole_list (blocks_of (drop (at + n) s)))
+    lists_by : (t : Bool) → t ≡ whole_list held → every whole_list (blocks_of (drop at s)) ≡ (t && every whole_list (blocks_of (drop (at + n) s)))
     unfolding every
-    lists_more t e = rw (piece_more block_in block_le s at n p.is some, held_is, e) refl
+    lists_by t e = rw (piece_more block_in block_le s at n p.is some, held_is, e) refl
+
+    pub lists_more : true ≡ whole_list held → every whole_list (blocks_of (drop at s)) ≡ every whole_list (blocks_of (drop (at + n) s))
+    lists_more e = lists_by true e
+
+    pub lists_not : false ≡ whole_list held → every whole_list (blocks_of (drop at s)) ≡ false
+    lists_not e = lists_by false e
 
     pub held_more : flatten (blocks_of (drop at s)) ≡ held ++ flatten (blocks_of (drop (at + n) s))
     unfolding flatten

@@ -9,8 +9,7 @@ use lib.Seq.{take_at, drop_at, length-take-le, drop-append_seam, take-append_sea
 use lib.Dec.{leb, ltb}
 use borrow.Author.Tests.{le-leb, lt-leb, leb-true, leb-false, lt-ltb, ltb-true}
 use Rattle.answer.specs.Pieces.{piece_then, pieces_from, rest_then, rest, rest_from, every}
-use Rattle.answer.specs.Laid.{PieceAt}
-use Rattle.answer.proofs.Pieces.{piece_more, piece_none, pieces_cons, rest_cons, from_le, flatten_pieces, all_append}
+use Rattle.answer.proofs.Pieces.{count_le, piece_more, piece_none, pieces_cons, rest_cons, from_le, flatten_pieces, all_append}
 use Rattle.parameters.specs.Parameters.{parameter_in, parameters, whole_list, data_of}
 use Rattle.message.specs.Blocks.{block_of, filled, first_in, fill, greedy}
 use Rattle.message.specs.Message.{short}
@@ -43,24 +42,33 @@ pub first_le : (xs : List ℕ) → first_in xs ≤ length xs
 unfolding first_in
 first_le xs = omega (arith, filled_le 0 (parameters xs), from_le parameter_in parameter_le 0 xs)
 
+-- no more blocks than bytes
+pub fill_few : (list : List ℕ) → length (fill list) ≤ length list
+fill_few list = omega (arith, count_le first_in first_le 0 list)
+
 first_999 : (xs : List ℕ) → first_in xs ≤ 999
 unfolding first_in
 first_999 xs = filled_999 0 (parameters xs) (omega arith)
 
 -- ---- a walk over the parameters: the present block has m bytes, and a parameter of r bytes is next
 
-module _ (s : List ℕ) (at r m : ℕ) (p : PieceAt parameter_in s at r) where
+module _ (s : List ℕ) (at r m : ℕ) (p : r ≡ parameter_in (drop at s)) where
   pub filled_more : (r ≡ 0 → ⊥) → m + r ≤ 999 → filled m (parameters (drop at s)) ≡ filled (m + r) (parameters (drop (at + r) s))
   unfolding filled
-  filled_more h k = rw (piece_more parameter_in parameter_le s at r p.is h, piece_long s at r p, le-leb (m + r) 999 k) refl
+  filled_more h k = rw (piece_more parameter_in parameter_le s at r p h, piece_long s at r p, le-leb (m + r) 999 k) refl
 
   pub filled_over : (r ≡ 0 → ⊥) → 999 < m + r → filled m (parameters (drop at s)) ≡ m
   unfolding filled
-  filled_over h k = rw (piece_more parameter_in parameter_le s at r p.is h, piece_long s at r p, lt-leb (m + r) 999 k) refl
+  filled_over h k = rw (piece_more parameter_in parameter_le s at r p h, piece_long s at r p, lt-leb (m + r) 999 k) refl
 
   pub filled_none : r ≡ 0 → filled m (parameters (drop at s)) ≡ m
   unfolding filled
-  filled_none h = rw (piece_none parameter_in parameter_le s at r p.is h) refl
+  filled_none h = rw (piece_none parameter_in parameter_le s at r p h) refl
+
+-- the same, where the present block starts at `start`
+pub filled_on : (s : List ℕ) (at r start : ℕ) → r ≡ parameter_in (drop at s) → start ≤ at → (r ≡ 0 → ⊥) → at - start + r ≤ 999
+    → filled (at - start) (parameters (drop at s)) ≡ filled (at + r - start) (parameters (drop (at + r) s))
+filled_on s at r start p l h k = let e : at - start + r ≡ at + r - start = omega arith in filled_more s at r (at - start) p h k ∙ ap (λ (n : ℕ). filled n (parameters (drop (at + r) s))) e
 
 -- ---- a walk over the blocks: the one that starts at a place ends at e
 
@@ -85,12 +93,19 @@ module _ (s : List ℕ) (at e : ℕ) (p : EndsAt first_in s at e) where
   unfolding flatten
   blocks_none h = ap (λ (x : List (List ℕ)). flatten (map block_of x)) (fill_none h)
 
-  pub joined_more : (e ≡ at → ⊥) → length (flatten (fill (drop at s))) ≡ e - at + length (flatten (fill (drop e s)))
+  pub count_more : (e ≡ at → ⊥) → length (fill (drop at s)) ≡ length (fill (drop e s)) + 1
+  count_more h = ap (λ (x : List (List ℕ)). length x) (fill_more h) ∙ omega arith
+
+  pub count_none : e ≡ at → length (fill (drop at s)) ≡ 0
+  count_none h = ap (λ (x : List (List ℕ)). length x) (fill_none h)
+
+  pub joined_more : (e ≡ at → ⊥) → at + length (flatten (fill (drop at s))) ≡ e + length (flatten (fill (drop e s)))
   unfolding flatten
   joined_more h =
+      let i = p.is in
       let l : length (take (e - at) (drop at s)) ≡ e - at = length-take-le (e - at) (drop at s) (simp length-drop (omega (arith, p.within))) in
-      ap (λ (x : List (List ℕ)). length (flatten x)) (fill_more h) ∙ length-append (take (e - at) (drop at s)) (flatten (fill (drop e s)))
-      ∙ ap (λ (k : ℕ). k + length (flatten (fill (drop e s)))) l
+      let f = ap (λ (x : List (List ℕ)). length (flatten x)) (fill_more h) ∙ length-append (take (e - at) (drop at s)) (flatten (fill (drop e s))) in
+      omega (arith, f, l)
 
   pub joined_none : e ≡ at → length (flatten (fill (drop at s))) ≡ 0
   unfolding flatten

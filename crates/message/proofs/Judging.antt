@@ -2,10 +2,10 @@
 use mathlib.Core.Path.{◌≡◌, refl, sym, ap, ◌∙◌}
 use mathlib.Core.Bool.{Bool, true, false, cond}
 use mathlib.Core.List.{List, ◌++◌, map, flatten}
-use Prim.Native.Nat.{ℕ, ◌+◌, ◌*◌, ◌≤◌, ◌<◌}
+use Prim.Native.Nat.{ℕ, ◌+◌, ◌*◌, ◌≤◌}
 use native.Mathlib.Omega.{arith}
 use lib.ListN.{length, length-append}
-use borrow.Author.Tests.{lt-ltb, le-ltb}
+use borrow.Author.Tests.{le-ltb}
 use Rattle.answer.specs.Answers.{over}
 use Rattle.answer.specs.Answers.Result.{Good, Refused}
 use Rattle.answer.specs.Laid.{pasted, Puts}
@@ -18,9 +18,6 @@ use Rattle.message.proofs.Blocks.{blocks_long}
 use Rattle.message.proofs.Filling.{flatten_fill, held_whole, held_short}
 
 -- ---- the writer
-
-pub sized_over : (m : List ℕ) → 2048 < length m → message_sized m ≡ Refused 23
-sized_over m h = rw (lt-ltb 2048 (length m) h) refl
 
 pub sized_good : (m : List ℕ) → length m ≤ 2048 → message_sized m ≡ Good m
 sized_good m h = rw (le-ltb 2048 (length m) h) refl

@@ -40,6 +40,7 @@ fn block_in(s: &[u8]) -> usize
 }
 
 // The size of the block at `at`, 0 where none stands there.
+#[tactic(auto, using(crate::proofs::Blocks::block_there))]
 fn block_at(s: &[u8], at: usize) -> usize
     requires { at ≤ length s.now }
     ensures { PieceAt block_in s.now at result }
@@ -48,6 +49,7 @@ fn block_at(s: &[u8], at: usize) -> usize
 }
 
 // Whether `body` is blocks and nothing else.
+#[tactic(auto, using(answer::proofs::Pieces::whole_more, answer::proofs::Pieces::whole_stop, answer::proofs::Pieces::whole_end, crate::proofs::Blocks::block_le))]
 pub(crate) fn whole_blocks(body: &[u8]) -> bool
     ensures { result ≡ whole block_in body.now }
 {
@@ -63,7 +65,7 @@ pub(crate) fn whole_blocks(body: &[u8]) -> bool
 }
 
 // Whether each block of `body` holds parameters and nothing else.
-#[tactic(auto, using(crate::proofs::Blocks::three))]
+#[tactic(auto, using(crate::proofs::Blocks::three, crate::proofs::Blocks::lists_more, crate::proofs::Blocks::lists_not, crate::proofs::Blocks::lists_none))]
 pub(crate) fn whole_lists(body: &[u8]) -> bool
     ensures { result ≡ every whole_list (blocks_of body.now) }
 {
@@ -82,7 +84,7 @@ pub(crate) fn whole_lists(body: &[u8]) -> bool
 }
 
 // How many bytes the blocks of `body` hold together.
-#[tactic(auto, using(crate::proofs::Blocks::three))]
+#[tactic(auto, using(crate::proofs::Blocks::three, crate::proofs::Blocks::joined_more, crate::proofs::Blocks::held_none))]
 pub(crate) fn joined_length(body: &[u8]) -> usize
     ensures { result ≡ length (flatten (blocks_of body.now)) }
 {

@@ -15,7 +15,7 @@ pub(crate) struct Measured {
 }
 
 // Where the block that starts with the parameter at `start` is full, or the list at its end.
-#[tactic(auto, using(parameters::proofs::Parameters::parameter_ends))]
+#[tactic(auto, using(parameters::proofs::Parameters::parameter_ends, crate::proofs::Filling::filled_on, crate::proofs::Filling::filled_over, crate::proofs::Filling::filled_none), unfolding(crate::specs::Blocks::first_in))]
 fn block_end(list: &[u8], start: usize) -> usize
     requires { start ≤ length list.now }
     ensures { EndsAt first_in list.now start result }
@@ -35,6 +35,7 @@ fn block_end(list: &[u8], start: usize) -> usize
 }
 
 // Fills blocks with `list` without writing them. They end before the first parameter that is broken or too long for a block.
+#[tactic(auto, using(crate::proofs::Filling::count_more, crate::proofs::Filling::count_none, crate::proofs::Filling::joined_more, crate::proofs::Filling::joined_none))]
 pub(crate) fn measure(list: &[u8]) -> Measured
     ensures { Measures list.now result }
 {

@@ -19,7 +19,7 @@ use parameters::whole_list;
 
 // Joins the blocks of a message to one parameter list at the start of `out`. The caller says whether the message is a response or a
 // command. Refusals in this order: 11, 20, 21, 1.
-#[tactic(auto, unfolding(crate::specs::Message::read_message))]
+#[tactic(auto, using(crate::proofs::Heads::framed_room), unfolding(crate::specs::Message::read_message))]
 pub fn read_message(message: &[u8], response: bool, out: &mut [u8]) -> Answer
     ensures { Gives (read_message response message.now) out.old result out.new }
 {
@@ -64,7 +64,7 @@ fn read_body(body: &[u8], out: &mut [u8]) -> Answer
 
 // Writes the message of a head and a parameter list to the start of `out`. The caller says whether it is the head of a response or of a
 // command. Refusals in this order: 20, 21, 22, 23, 1.
-#[tactic(auto, unfolding(crate::specs::Message::write_message))]
+#[tactic(auto, using(crate::proofs::Heads::head_six, crate::proofs::Judging::write_unheld, crate::proofs::Judging::write_held), unfolding(crate::specs::Message::write_message))]
 pub fn write_message(head: &[u8], response: bool, list: &[u8], out: &mut [u8]) -> Answer
     ensures { Gives (write_message head.now response list.now) out.old result out.new }
 {
@@ -87,6 +87,7 @@ fn list_refusal(list: &[u8]) -> u8
 
 // Gives the message of a good head and of a list that its blocks hold to its end. A list over 2,048 bytes is refused first, so that the
 // sum cannot wrap.
+#[tactic(auto, using(crate::proofs::Filling::fill_few, crate::proofs::Judging::message_long))]
 fn write_good(head: &[u8], list: &[u8], blocks: usize, out: &mut [u8]) -> Answer
     requires { (length head.now ≤ 6) × (length (flatten (fill list.now)) ≡ length list.now) × (blocks ≡ length (fill list.now)) }
     ensures { Gives (message_sized (message_of head.now list.now)) out.old result out.new }

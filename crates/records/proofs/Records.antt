@@ -149,9 +149,6 @@ module _ (xs : List ℕ) where
     unfolding found_in
     found_as = rw (starts xs some).begins refl
 
-    pub found_some : record { size = record_in xs; kind = kind_of xs; network = network_of xs } ≡ found_in xs
-    found_some = ap (λ (n : ℕ). record { size = n; kind = kind_of xs; network = network_of xs }) (starts xs some).is ∙ sym found_as
-
     -- two digits write 99 at most
     pub network_low : network_of xs ≤ 99
     network_low =

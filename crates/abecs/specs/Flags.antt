@@ -4,7 +4,7 @@ use Rattle.std.specs.Prelude.{ℕ, ◌-◌, ◌≡◌, not, ◌&&◌, cond, List
 use Rattle.records.specs.Store.{zeros}
 use Rattle.tables.specs.declared.Extent.{Extent}
 use Rattle.tables.specs.declared.Load.{Load}
-use Rattle.tables.specs.Loading.{Stocked, stocked}
+use Rattle.tables.specs.Loading.{stocked}
 use Rattle.tables.specs.Closing.{closes, new_bytes, new_records, new_versions}
 use Rattle.image.specs.Image.{flag_of}
 use Rattle.abecs.specs.declared.LoadOf.{LoadOf}

@@ -2,22 +2,17 @@
 use mathlib.Core.Path.{◌≡◌, refl, ap, ◌∙◌}
 use mathlib.Core.Bool.{Bool, true, false, ◌&&◌, ◌||◌, cond, false≢true, true≢false}
 use mathlib.Core.List.{List, [], ◌∷◌}
-use Prim.Native.Nat.{ℕ, suc, ◌+◌, ◌≤◌, ◌<◌}
+use Prim.Native.Nat.{ℕ, suc, ◌+◌}
 use native.Mathlib.Omega.{arith}
-use native.Mathlib.Numerals.{add-one}
-use lib.ListN.{length, drop, get_or, length-set, drop_of_length-le}
-use lib.Seq.{drop-cons}
 use lib.Dec.{leb, ltb, eqb}
 use borrow.Author.Tests.{eqb-true}
 use Rattle.packet.specs.Packet.{packet_of}
 use Rattle.reception.specs.declared.Reception.{Reception}
 use Rattle.reception.specs.declared.Reception.TheVariants.{Idle, InData, After13h, FirstCheck, SecondCheck}
 use Rattle.reception.specs.declared.Line.{Line}
-use Rattle.reception.specs.declared.Told.{Told}
-use Rattle.reception.specs.declared.Told.TheVariants.{Nothing, Payload, Complete}
+use Rattle.reception.specs.declared.Told.TheVariants.{Payload}
 use Rattle.reception.specs.declared.Took.{Took}
 use Rattle.reception.specs.Reception.{line_of, took_of, started, going_on, spoiled_in, placed, from_idle, from_data, from13h, taken_in, taken}
-use Rattle.reception.proofs.Promises.{taken_within}
 use Rattle.device.specs.Machine.{Holding, Machine, Stepped, Called, on, silent, good_packet, runs, refuses, payload_of, completes, hears, cancels, again, takes, step, is_none, one_more, call}
 use Rattle.device.specs.Machine.Holding.{nothing, holding}
 use Rattle.gathering.specs.Gathering.{asks_in, placed_in, Got, got_as, gathered}

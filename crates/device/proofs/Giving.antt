@@ -5,7 +5,6 @@ use mathlib.Core.List.{List, []}
 use Prim.Native.Nat.{ℕ, zero, suc, ◌≤◌}
 use native.Mathlib.Omega.{arith}
 use lib.ListN.{length}
-use Rattle.answer.specs.Answers.{over}
 use Rattle.reception.specs.declared.Line.{Line}
 use Rattle.reception.specs.Reception.{idle}
 use Rattle.execution.specs.declared.Tables.{Tables}
@@ -20,7 +19,7 @@ use Rattle.gathering.specs.declared.Gathered.{Gathered}
 use Rattle.device.specs.declared.Replied.{Replied}
 use Rattle.device.specs.Events.Event.{timeout, restart}
 use Rattle.device.specs.Promise.{Left, after_piece, after_event, unless, Gives, Answers}
-use Rattle.gathering.specs.Gathering.{asks_in, Got, gathered, Gathers}
+use Rattle.gathering.specs.Gathering.{asks_in, gathered, Gathers}
 use Rattle.device.specs.Steps.{Told', replied_in, Does}
 use Rattle.gathering.proofs.Kept.{gathered_within, gathered_asks}
 use Rattle.device.proofs.Replies.{Known}

@@ -1,7 +1,7 @@
 -- The replies, as the functions that make them leave them.
 use mathlib.Core.Path.{◌≡◌, refl, sym, ap, subst, ◌∙◌}
 use mathlib.Core.Bool.{Bool, true, false, ◌&&◌, false≢true}
-use mathlib.Core.List.{List, [], ◌∷◌, ◌++◌}
+use mathlib.Core.List.{List, [], ◌∷◌}
 use Prim.Native.Nat.{ℕ, ◌-◌, ◌≤◌, ◌<◌}
 use native.Mathlib.Omega.{arith}
 use lib.ListN.{length, take}
@@ -18,7 +18,7 @@ use Rattle.reception.specs.Reception.{idle}
 use Rattle.execution.specs.declared.Response.{Response}
 use Rattle.execution.specs.declared.Executed.{Executed}
 use Rattle.execution.specs.Stored.{Stored}
-use Rattle.execution.specs.Promise.{executed, responded, response_with, Executes}
+use Rattle.execution.specs.Promise.{responded, Executes}
 use Rattle.execution.proofs.Executing.{responded_short, responded_some}
 use Rattle.state.specs.declared.Held.{Held}
 use Rattle.state.specs.State.{State, device_as, stored_in, can_resend}

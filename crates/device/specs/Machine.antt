@@ -5,7 +5,6 @@ use Rattle.packet.specs.Packet.{packet_of}
 use Rattle.reception.specs.declared.Line.{Line}
 use Rattle.reception.specs.declared.Told.{Told}
 use Rattle.reception.specs.declared.Told.TheVariants.{Nothing, Payload, Complete}
-use Rattle.reception.specs.declared.Took.{Took}
 use Rattle.reception.specs.Reception.{idle, taken}
 use Rattle.device.specs.Events.{Event}
 use Rattle.device.specs.Events.Event.{byte, timeout, restart}

@@ -6,7 +6,7 @@ use Rattle.state.specs.Sound.{both_sized, refusal_of}
 use Rattle.device.specs.declared.Received.{Received}
 use Rattle.device.specs.declared.Started.{Started}
 use Rattle.device.specs.Events.{Event}
-use Rattle.device.specs.Machine.{Machine, fresh, step, call}
+use Rattle.device.specs.Machine.{fresh, step, call}
 use Rattle.device.specs.Between.{machine_of, state_of}
 
 -- what a call leaves, how many bytes it took, and what it replied

@@ -5,7 +5,6 @@ use Rattle.packet.specs.Packet.{packet_of}
 use Rattle.reception.specs.declared.Reception.{Reception}
 use Rattle.reception.specs.declared.Reception.TheVariants.{Idle, InData, After13h, FirstCheck, SecondCheck}
 use Rattle.reception.specs.Reception.{idle}
-use Rattle.execution.specs.declared.Tables.{Tables}
 use Rattle.execution.specs.Promise.{executed, responded}
 use Rattle.state.specs.declared.Held.{Held}
 use Rattle.state.specs.declared.Device.{Device}

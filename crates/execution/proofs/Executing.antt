@@ -22,7 +22,7 @@ use Rattle.command.specs.Texts.{ascii, all_text}
 use Rattle.command.specs.Command.{command_of}
 use Rattle.execution.specs.declared.OpenLoad.{OpenLoad}
 use Rattle.execution.specs.Core.{Opening, with_load, fresh_core}
-use Rattle.execution.specs.Core.Opening.{none, some}
+use Rattle.execution.specs.Core.Opening.{none}
 use Rattle.execution.specs.CommandTable.{version_in, block_in, same, response_to}
 use Rattle.execution.specs.Execute.{opened_for, fed, accepts, ended, execute_as, execute, is_open, response_of}
 use Rattle.execution.specs.Stored.{Stored, kept_in, opening_in, core_of, no_load, open_load_of, loading_bytes, stored_of, open_sound, answered_sound, sound_tables}

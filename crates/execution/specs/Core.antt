@@ -1,5 +1,5 @@
 -- What commands read and change, said without arrays: the live tables, the versions, the open load (scope paper, section Commands).
-use Rattle.std.specs.Prelude.{ℕ, Bool, false, List, [], replicate}
+use Rattle.std.specs.Prelude.{ℕ, Bool, List, [], replicate}
 use Rattle.tables.specs.Loading.{Kept}
 
 -- the network and version that TLI named, the records kept and whether one was not, and whether a TLR was answered 000

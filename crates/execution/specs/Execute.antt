@@ -2,13 +2,13 @@
 use Rattle.std.specs.Prelude.{ℕ, Bool, true, false, not, ◌&&◌, cond, List, []}
 use Rattle.records.specs.Record.{records_of}
 use Rattle.records.specs.Store.{fits}
-use Rattle.tables.specs.Loading.{taken, Kept, keep_all}
+use Rattle.tables.specs.Loading.{taken, keep_all}
 use Rattle.tables.specs.Closing.{new_set, new_version, new_versions}
 use Rattle.command.specs.declared.Command.{Command}
 use Rattle.command.specs.declared.Command.TheVariants.{Opn, Gts, GtsWrong, Tli, TliWrong, Tlr, TlrWrong, Tle, Unknown}
 use Rattle.command.specs.Command.{command_of}
 use Rattle.execution.specs.CommandTable.{version_in, block_in, response_to}
-use Rattle.execution.specs.Core.{Loading, Opening, Core, with_load}
+use Rattle.execution.specs.Core.{Opening, Core, with_load}
 use Rattle.execution.specs.Core.Opening.{none, some}
 
 -- ---- what a command does

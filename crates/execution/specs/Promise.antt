@@ -1,7 +1,6 @@
 -- What the calls promise, for any struct and any bytes in the stores.
 use Rattle.std.specs.Prelude.{ℕ, ◌-◌, ◌≡◌, Bool, true, false, cond, List, ◌++◌, length}
 use Rattle.records.specs.Store.{zeros}
-use Rattle.tables.specs.declared.Extent.{Extent}
 use Rattle.tables.specs.declared.Load.{Load}
 use Rattle.tables.specs.Loading.{Stocked, stocked}
 use Rattle.tables.specs.Closing.{new_bytes, new_records, closes, new_version, new_versions}

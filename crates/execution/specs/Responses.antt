@@ -1,5 +1,5 @@
 -- Which payloads the command table or ERR010 gives as a response (scope paper, section Numbered refusals of calls, refusal 3).
-use Rattle.std.specs.Prelude.{ℕ, Bool, true, false, ◌&&◌, ◌||◌, List, [], ◌∷◌, length, drop, eqb}
+use Rattle.std.specs.Prelude.{ℕ, Bool, false, ◌&&◌, ◌||◌, List, [], ◌∷◌, length, drop, eqb}
 use Rattle.command.specs.Texts.{ascii, starts, all_text}
 use Rattle.execution.specs.CommandTable.{same}
 

@@ -1,7 +1,7 @@
 -- The same as the code holds it: a struct and the bytes of two lent stores. Both ways between the two, and the rules that refusal 3 judges by
 -- (scope paper, sections Commands and Numbered refusals of calls).
-use Rattle.std.specs.Prelude.{ℕ, Bool, true, false, not, ◌&&◌, ◌||◌, cond, length, take, drop, ltb, eqb}
-use mathlib.Core.List.{List, [], ◌++◌, flatten}
+use Rattle.std.specs.Prelude.{ℕ, Bool, true, false, not, ◌&&◌, ◌||◌, cond, length, take, ltb, eqb}
+use mathlib.Core.List.{List, flatten}
 use Rattle.records.specs.Record.{recs}
 use Rattle.records.specs.Store.{zeros, store_of, all_zero, sound_store}
 use Rattle.tables.specs.declared.Extent.{Extent}
@@ -10,7 +10,7 @@ use Rattle.tables.specs.Loading.{Kept}
 use Rattle.command.specs.Texts.{all_text}
 use Rattle.execution.specs.declared.OpenLoad.{OpenLoad}
 use Rattle.execution.specs.declared.Tables.{Tables}
-use Rattle.execution.specs.Core.{Loading, Opening, Core}
+use Rattle.execution.specs.Core.{Opening, Core}
 use Rattle.execution.specs.Core.Opening.{none, some}
 
 -- the struct, and the bytes of the live and the loading store

@@ -1,5 +1,5 @@
 -- The scope paper's marked samples hold, by computation of the definitions.
-use mathlib.Core.Path.{◌≡◌, refl}
+use mathlib.Core.Path.{refl}
 use mathlib.Core.List.{flatten}
 use Rattle.answer.specs.Pieces.{pieces_from, rest_from, every}
 use Rattle.crc16.specs.Crc.{◌⊕◌, zeros, generator, divide, remainder, odd, bits, bits_of, number, check}

@@ -1,6 +1,5 @@
 -- Any sequence of device calls that hands over a history, by what the public calls promise (scope paper, section Reception, its end).
 use Rattle.std.specs.Prelude.{ℕ, zero, suc, ◌≡◌, List, [], ◌∷◌, ◌++◌, take, drop}
-use Rattle.state.specs.declared.Device.{Device}
 use Rattle.state.specs.State.{State, state_as}
 use Rattle.device.specs.declared.Received.{Received}
 use Rattle.device.specs.Events.{Event}

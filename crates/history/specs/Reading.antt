@@ -1,9 +1,8 @@
 -- The same read state by state, as the machine of crate device reads it, and a machine's run over a history. What is found by eye is proved equal.
-use Rattle.std.specs.Prelude.{ℕ, Bool, ◌&&◌, cond, List, [], ◌∷◌, ◌++◌, take, eqb}
+use Rattle.std.specs.Prelude.{ℕ, ◌&&◌, cond, List, [], ◌∷◌, ◌++◌, take, eqb}
 use Rattle.reception.specs.declared.Line.{Line}
 use Rattle.reception.specs.declared.Told.{Told}
 use Rattle.reception.specs.declared.Told.TheVariants.{Nothing, Payload, Complete}
-use Rattle.reception.specs.declared.Took.{Took}
 use Rattle.reception.specs.Reception.{idle, taken}
 use Rattle.state.specs.State.{is_idle}
 use Rattle.device.specs.Events.{Event}
@@ -13,7 +12,7 @@ use Rattle.gathering.specs.Gathering.{placed_in}
 use Rattle.history.specs.Text.{Item}
 use Rattle.history.specs.Text.Item.{good, bad, can, nak}
 use Rattle.history.specs.Ran.{Seen, items}
-use Rattle.history.specs.Ran.Seen.{item, restarted}
+use Rattle.history.specs.Ran.Seen.{restarted}
 
 -- what a complete packet is
 abbrev pub heard_item : Line → List ℕ → ℕ → ℕ → Item

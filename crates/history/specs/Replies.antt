@@ -4,7 +4,6 @@ use Rattle.packet.specs.Packet.{packet_of}
 use Rattle.command.specs.Command.{command_of}
 use Rattle.execution.specs.CommandTable.{response_to}
 use Rattle.device.specs.Events.{Event}
-use Rattle.history.specs.Text.{Item}
 use Rattle.history.specs.Text.Item.{good, bad, can, nak}
 use Rattle.history.specs.Ran.{Seen, seen_of, Ran}
 use Rattle.history.specs.Ran.Seen.{item, restarted}

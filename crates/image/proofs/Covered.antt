@@ -1,12 +1,10 @@
 -- There are such calls: every history can be handed over whole to a board that was started, by the exported calls.
 use mathlib.Core.Path.{◌≡◌, refl, sym, ap, subst, ◌∙◌}
-use mathlib.Core.List.{List, []}
+use mathlib.Core.List.{List}
 use Prim.Native.Nat.{ℕ, zero, suc}
 use native.Mathlib.Omega.{arith}
-use lib.ListN.{length}
 use Rattle.state.specs.declared.Device.{Device}
 use Rattle.state.specs.State.{State, state_as}
-use Rattle.state.specs.Sound.{refusal_of}
 use Rattle.device.specs.declared.Received.{Received}
 use Rattle.device.specs.Events.{Event}
 use Rattle.device.specs.Events.Event.{timeout, restart}
@@ -18,7 +16,7 @@ use Rattle.history.proofs.Theorems.{started_fresh}
 use Rattle.image.specs.declared.Image.{Image}
 use Rattle.image.specs.declared.Imaged.{Imaged}
 use Rattle.image.specs.Image.{device_of}
-use Rattle.image.specs.ImagePromise.{state_in, ImageAnswers, StartsImage}
+use Rattle.image.specs.ImagePromise.{state_in, StartsImage}
 use Rattle.image.specs.ImageCalls.{Board, board_as, state_on, ImageCalls, CoveredOn}
 use Rattle.image.specs.ImageCalls.ImageCalls.{done, received, timed_out, restarts, refused_on}
 use Rattle.image.proofs.Imaging.{image_stays, image_goes, imaged_by, imaged}

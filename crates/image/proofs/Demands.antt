@@ -2,12 +2,11 @@
 -- the device's calls, on the state that image and stores stand for.
 use mathlib.Core.Path.{◌≡◌, refl, sym, ap, subst, ◌∙◌}
 use mathlib.Core.Bool.{true}
-use mathlib.Core.List.{List, [], ◌∷◌, ◌++◌}
+use mathlib.Core.List.{List, []}
 use Prim.Native.Nat.{ℕ, zero, suc}
 use native.Mathlib.Omega.{arith}
-use lib.ListN.{length, take}
-use Rattle.state.specs.declared.Device.{Device}
-use Rattle.state.specs.State.{State, state_as}
+use lib.ListN.{length}
+use Rattle.state.specs.State.{State}
 use Rattle.state.specs.Sound.{refusal_of}
 use Rattle.device.specs.declared.Received.{Received}
 use Rattle.device.specs.declared.Started.{Started}

@@ -9,7 +9,6 @@ use Rattle.device.specs.Machine.{fresh}
 use Rattle.device.specs.Between.{state_of}
 use Rattle.device.specs.Promise.{Left, after_piece, after_event, unless, start_refusal}
 use Rattle.image.specs.declared.Image.{Image}
-use Rattle.image.specs.declared.Taken.{Taken}
 use Rattle.image.specs.declared.Imaged.{Imaged}
 use Rattle.image.specs.Image.{image_of, device_of}
 

@@ -8,14 +8,14 @@ use std::io;
 use std::io::{Read, Write};
 
 // What is left after a read: the device, and whether more may come.
-#[derive(Clone, Copy)]
+#[derive(Drop)]
 struct Turn {
     device: Device,
     more: bool,
 }
 
 // The device after a piece, and how many bytes of replies are still to be written.
-#[derive(Clone, Copy)]
+#[derive(Drop)]
 struct Offered {
     device: Device,
     used: usize,

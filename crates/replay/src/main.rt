@@ -13,10 +13,13 @@ mod calls;
 mod log;
 mod showing;
 
-ghost use Rattle.std.specs.Prelude.{◌≡◌, length};
+ghost use Rattle.std.specs.Prelude.{◌≡◌, ◌<◌, ◌≤◌, length, take, IfOk};
+ghost use Rattle.std.specs.Io.KnownBytes.{Consumes, IsAtEnd};
 
 use calls::run_call;
 use device::Device;
+use std::io;
+use std::io::{BufWriter, Read, Write};
 
 // A store for records. Its `ensures` is all that `main` has to know of so long a list.
 fn empty_store() -> [u8; 32768]
@@ -32,34 +35,60 @@ fn empty_script() -> [u8; 1048576]
     [0; 1048576]
 }
 
+// Reads until `room` is full or the input ends, and answers how many bytes were put at the start of `room`.
+fn read_full<R: Read>(input: &mut R, room: &mut [u8]) -> io::Result<usize>
+    ensures in_bounds { IfOk result (λ n. n ≤ length room.new) }
+    ensures bytes { IfOk result (λ n. Consumes (R.remaining input.old) (R.remaining input.new) (take n room.new)) }
+    ensures end { IfOk result (λ n. n < length room.new → IsAtEnd (R.remaining input.new)) }
+{
+    let mut done = 0;
+    while done < room.len() {
+        let n = input.read(&mut room[done..])?;
+        if n == 0 {
+            break;
+        }
+        done += n;
+    }
+    Ok(done)
+}
+
 // Makes the calls of the script, up to the first place where none stands.
-fn run_script(device: Device, script: &[u8], live: &mut [u8], loading: &mut [u8]) -> Device {
+fn run_script<W: Write>(
+    output: &mut W,
+    device: Device,
+    script: &[u8],
+    live: &mut [u8],
+    loading: &mut [u8],
+) -> io::Result<Device> {
     let mut next = device;
     let mut at = 0;
     while at < script.len() {
-        let made = run_call(next, &script[at..], live, loading);
+        let made = run_call(output, next, &script[at..], live, loading)?;
         next = made.device;
         if made.used == 0 {
-            log::say(b"bad script\n");
-            return next;
+            log::say(output, b"bad script\n")?;
+            return Ok(next);
         }
         at += made.used;
     }
-    next
+    Ok(next)
 }
 
 // Reads the script, runs it, and logs the state that it leaves. A script that fills the buffer may have gone on: the log then ends with `script too
-// long`.
-fn main() {
+// long`. A read or a write that fails ends the program.
+fn main(rt: HostRuntime) -> io::Result<()> {
     let mut live = empty_store();
     let mut loading = empty_store();
     let mut script = empty_script();
-    let n = io::read_full(0, &mut script);
+    let mut input = rt.stdin();
+    let n = read_full(&mut input, &mut script)?;
+    let mut output = BufWriter::new(rt.alloc(), rt.stdout())?;
     let started = device::start(&mut live, &mut loading);
     let device = started.device;
-    let last = run_script(device, &script[..n], &mut live, &mut loading);
-    showing::show(last, &live, &loading);
+    let last = run_script(&mut output, device, &script[..n], &mut live, &mut loading)?;
+    showing::show(&mut output, last, &live, &loading)?;
     if n == 1048576 {
-        log::say(b"script too long\n");
+        log::say(&mut output, b"script too long\n")?;
     }
+    output.flush()
 }

@@ -7,6 +7,6 @@ use Rattle.device.proofs.receive.Goals as goal
 
 pub take_piece-requires : goal.take_piece-requires
 take_piece-requires c =
-            let a = c.args in
+    let a = c.args in
     let q = accepted (length a.out.now) (state_as a.device a.live.now a.loading.now) (sym c.refusal_of-refusal.ensures ∙ c.if-refusal-ne0.false) in
     (q.roomy, q.sized, q.is_sound)

@@ -23,7 +23,7 @@ fresh-loading = refl
 pub returns : goal.returns
 unfolding is_sized
 returns c =
-        let a = c.args in
+    let a = c.args in
     let e = sym c.sizes_good.ensures ∙ c.if-not-sizes_good.false in
     let l = sized_both (state_as (state_of fresh).device a.live.now a.loading.now) e in
     record {

@@ -15,12 +15,12 @@ use Rattle.device.proofs.take_piece.Goals as goal
 pub returns-then-not-got : goal.returns-then-not-got
 returns-then-not-got c =
     let knows : Known (state_as c.args.device c.args.live.now c.args.loading.now) =
-      let d = c.args.device in
-      let s : length d.store ≡ 2048 = search rules in
-      let p : length d.held.response.payload ≡ 19 = search rules in
-      let v : length d.tables.versions ≡ 1000 = search rules in
-      let o : length d.tables.load.version ≡ 10 = search rules in
-      known (state_as d c.args.live.now c.args.loading.now) (record { store_long = s; payload_long = p; versions_long = v; version_long = o }) c.requires.1 c.requires.2 in
+    let d = c.args.device in
+    let s : length d.store ≡ 2048 = search rules in
+    let p : length d.held.response.payload ≡ 19 = search rules in
+    let v : length d.tables.versions ≡ 1000 = search rules in
+    let o : length d.tables.load.version ≡ 10 = search rules in
+    known (state_as d c.args.live.now c.args.loading.now) (record { store_long = s; payload_long = p; versions_long = v; version_long = o }) c.requires.1 c.requires.2 in
     let x = state_as c.args.device c.args.live.now c.args.loading.now in
     silent_gives x c.args.piece.now c.line_of.result c.can_resend.result c.gather-got.result c.gather-got.new.store c.line_of.ensures c.can_resend.ensures c.gather-got.ensures
     knows (held_good x c.requires.2) c.with_line-heard.result c.with_line-heard.ensures c.args.out.now (not-true _ c.if-not-got.true)
@@ -37,12 +37,12 @@ reply_to-replied-requires c =
 pub returns : goal.returns
 returns c =
     let knows : Known (state_as c.args.device c.args.live.now c.args.loading.now) =
-      let d = c.args.device in
-      let s : length d.store ≡ 2048 = search rules in
-      let p : length d.held.response.payload ≡ 19 = search rules in
-      let v : length d.tables.versions ≡ 1000 = search rules in
-      let o : length d.tables.load.version ≡ 10 = search rules in
-      known (state_as d c.args.live.now c.args.loading.now) (record { store_long = s; payload_long = p; versions_long = v; version_long = o }) c.requires.1 c.requires.2 in
+    let d = c.args.device in
+    let s : length d.store ≡ 2048 = search rules in
+    let p : length d.held.response.payload ≡ 19 = search rules in
+    let v : length d.tables.versions ≡ 1000 = search rules in
+    let o : length d.tables.load.version ≡ 10 = search rules in
+    known (state_as d c.args.live.now c.args.loading.now) (record { store_long = s; payload_long = p; versions_long = v; version_long = o }) c.requires.1 c.requires.2 in
     let x = state_as c.args.device c.args.live.now c.args.loading.now in
     asked_gives x c.args.piece.now c.line_of.result c.can_resend.result c.gather-got.result c.gather-got.new.store c.line_of.ensures c.can_resend.ensures c.gather-got.ensures
     knows (held_good x c.requires.2) c.with_line-heard.result c.with_line-heard.ensures c.args.out.now c.reply_to-replied.result _ _ _ (not-false _ c.if-not-got.false) c.reply_to-replied.ensures

@@ -9,7 +9,7 @@ use Rattle.device.proofs.replying.complete.Goals as goal
 
 pub returns-then-is_good : goal.returns-then-is_good
 returns-then-is_good c =
-            let a = c.args in
+    let a = c.args in
     let n : a.device.count - 0 ≡ a.device.count = omega arith in
     let e = completed_good (state_as a.device a.live.now a.loading.now) a.first a.second (take (a.device.count - 0) a.device.store) (ap (λ k. take k a.device.store) n)
     (sym c.is_good.ensures ∙ c.if-is_good.true) in
@@ -17,7 +17,7 @@ returns-then-is_good c =
 
 pub returns-else-is_good : goal.returns-else-is_good
 returns-else-is_good c =
-            let a = c.args in
+    let a = c.args in
     let n : a.device.count - 0 ≡ a.device.count = omega arith in
     let x = state_as a.device a.live.now a.loading.now in
     let e = completed_bad x a.first a.second (take (a.device.count - 0) a.device.store) (ap (λ k. take k a.device.store) n)

@@ -1,5 +1,4 @@
 -- `device::replying::run` meets its contract: the payload is executed, and its response sent and held.
-use Prim.Native.Nat.{◌-◌}
 use Rattle.device.proofs.Running.{response_some, response_short}
 use Rattle.device.proofs.replying.run.Goals as goal
 

@@ -5,4 +5,4 @@ use Rattle.image.proofs.converting.device_of.Goals as goal
 pub returns : goal.returns
 unfolding device_of
 returns c =
-        simp (c.reception_of-reception.ensures, c.count_in-count.ensures, c.load_of-load.ensures)
+    simp (c.reception_of-reception.ensures, c.count_in-count.ensures, c.load_of-load.ensures)

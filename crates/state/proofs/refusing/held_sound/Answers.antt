@@ -2,7 +2,6 @@
 use mathlib.Core.Path.{◌≡◌, sym, ◌∙◌}
 use Prim.Native.Nat.{◌-◌}
 use native.Mathlib.Omega.{arith}
-use lib.ListN.{length}
 use borrow.Author.Tests.{lt-leb, le-leb, eq-eqb, ne_eqb}
 use Rattle.state.specs.Sound.{held_sound}
 use Rattle.state.proofs.refusing.held_sound.Goals as goal
@@ -22,7 +21,7 @@ returns-then-not-rest_is_zero c =
 pub returns-then-n-eq0 : goal.returns-then-n-eq0
 unfolding held_sound
 returns-then-n-eq0 c =
-        let h = c.args.held in
+    let h = c.args.held in
     simp (
       le-leb h.response.length 19 (omega arith),
       sym c.rest_is_zero.ensures ∙ c.if-not-rest_is_zero.false,
@@ -32,7 +31,7 @@ returns-then-n-eq0 c =
 pub returns : goal.returns
 unfolding held_sound
 returns c =
-        let h = c.args.held in
+    let h = c.args.held in
     let n = h.response.length in
     let e : n - 0 ≡ n = omega arith in
     simp (

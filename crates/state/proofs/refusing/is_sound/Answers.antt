@@ -10,10 +10,10 @@ returns-then-not-line_sound c = simp (sym c.line_sound.ensures ∙ c.if-not-line
 pub returns-then-not-held_sound : goal.returns-then-not-held_sound
 unfolding sound
 returns-then-not-held_sound c =
-        simp (sym c.line_sound.ensures ∙ c.if-not-line_sound.false, sym c.held_sound.ensures ∙ c.if-not-held_sound.true)
+    simp (sym c.line_sound.ensures ∙ c.if-not-line_sound.false, sym c.held_sound.ensures ∙ c.if-not-held_sound.true)
 
 pub returns : goal.returns
 unfolding sound
 returns c =
-            simp (sym c.line_sound.ensures ∙ c.if-not-line_sound.false, sym c.held_sound.ensures ∙ c.if-not-held_sound.false)
+    simp (sym c.line_sound.ensures ∙ c.if-not-line_sound.false, sym c.held_sound.ensures ∙ c.if-not-held_sound.false)
     c.tables_sound.ensures

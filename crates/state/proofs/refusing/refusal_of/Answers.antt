@@ -18,7 +18,7 @@ returns-then-not-sizes_good c =
 pub returns-then-not-is_sound : goal.returns-then-not-is_sound
 unfolding refusal_of is_sized
 returns-then-not-is_sound c =
-        let a = c.args in
+    let a = c.args in
     simp (
       le-ltb a.room 64 (omega arith),
       sym c.sizes_good.ensures ∙ c.if-not-sizes_good.false,
@@ -28,7 +28,7 @@ returns-then-not-is_sound c =
 pub returns : goal.returns
 unfolding refusal_of is_sized
 returns c =
-        let a = c.args in
+    let a = c.args in
     simp (
       le-ltb a.room 64 (omega arith),
       sym c.sizes_good.ensures ∙ c.if-not-sizes_good.false,

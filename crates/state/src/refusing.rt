@@ -82,6 +82,7 @@ fn is_sound(device: Device, live: &[u8], loading: &[u8]) -> bool
 }
 
 // The number of the refusal, or 0.
+#[tactic(auto, unfolding(crate::specs::Sound::refusal_of, crate::specs::Sound::is_sized))]
 pub fn refusal_of(device: Device, room: usize, live: &[u8], loading: &[u8]) -> u8
     ensures { result ≡ refusal_of room (state_as device live.now loading.now) }
 {

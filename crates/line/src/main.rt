@@ -28,7 +28,7 @@ fn empty_store() -> [u8; 32768]
     [0; 32768]
 }
 
-// Writes out the replies where another might not fit, and tells where the next one goes.
+// Writes out the replies where another might not fit, and tells where the next one goes. The only error is that of the write.
 fn make_room<W: Write>(output: &mut W, out: &[u8], used: usize) -> io::Result<usize>
     requires { (used ≤ length out.now) × (64 ≤ length out.now) }
     ensures { IfOk result (λ n. (n + 64 ≤ length out.now) × (n ≤ used)) }
@@ -54,7 +54,7 @@ fn call(
 }
 
 // Offers the bytes of `piece` until all are taken, and puts the replies one after another. A call that takes nothing was refused, and would be
-// again.
+// again. The only error is that of a write: it ends the program, and nothing is said of the buffers after it.
 fn offer<W: Write>(
     output: &mut W,
     device: Device,

@@ -13,7 +13,8 @@ pub struct Made {
     pub used: usize,
 }
 
-// One call with a piece, and its line.
+// One call with a piece, and its line. Here and in each function below the only error is that of a write: it ends the program, and nothing is said of the
+// stores after it.
 fn offer_once<W: Write>(
     output: &mut W,
     device: Device,

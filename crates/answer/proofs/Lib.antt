@@ -4,4 +4,5 @@ pub mod DigitLaws
 pub mod Laws
 pub mod Laid
 pub mod Pieces
+pub mod Found
 pub mod Promises

@@ -6,52 +6,106 @@ use Prim.Native.Nat.{ℕ}
 use native.Mathlib.Omega.{arith}
 use lib.ListN.{length, take, drop}
 use lib.Seq.{take_at}
-use lib.Dec.{ltb}
-use Rattle.answer.specs.declared.Answer.{Answer}
-use Rattle.answer.specs.Answers.{Result, Gives, answer_of, bytes_of, over}
-use Rattle.answer.specs.Answers.Result.{Good, Refused}
+use lib.Dec.{ltb, eqb}
+use Rattle.std.specs.Prelude.{Result, Ok, Err}
+use Rattle.answer.specs.declared.refusal.Refusal.{Refusal}
+use Rattle.answer.specs.declared.refusal.Refusal.TheVariants.{NoRoom, WrongSize, Unsound, Empty, TooLong, NoPacket, WrongCheck, NoMessage, NoParameter, LongParameter, LongMessage, NotFound, NoTag, NoLength, CutValue, LongValue}
+use Rattle.answer.specs.Refusals.{number_of}
+use Rattle.answer.specs.Answers.{Output, Gives, answer_of, bytes_of, over}
 use Rattle.answer.specs.Digits.{is_digit, is_text, digit_of}
 use Rattle.answer.specs.Laid.{PutIf}
 
 -- ONE RESULT: two results of a call that its promise allows for one entry are one, answer and buffer
-pub gives_one : (result : Result) (out : List ℕ) (r s : Answer) (o o' : List ℕ) → Gives result out r o → Gives result out s o' → (r ≡ s) × (o ≡ o')
-gives_one result out r s o o' g h = (g.answer ∙ sym h.answer, g.bytes ∙ sym h.bytes)
+pub gives_one : (output : Output) (out : List ℕ) (r s : Result ℕ Refusal) (o o' : List ℕ) → Gives output out r o → Gives output out s o' → (r ≡ s) × (o ≡ o')
+gives_one output out r s o o' g h = (g.answer ∙ sym h.answer, g.bytes ∙ sym h.bytes)
 
--- two answers that the promise of `refused` allows are one
-pub refused_one : (n : ℕ) (r s : Answer) → r ≡ answer_of (Refused n) → s ≡ answer_of (Refused n) → r ≡ s
-refused_one n r s e f = e ∙ sym f
+-- ---- the two cases of an output
 
--- ---- the two cases of a result
-
-pub same_good : {p q : List ℕ} → Good p ≡ Good q → p ≡ q
+pub same_good : {p q : List ℕ} → (let a : Output = Ok p in a) ≡ Ok q → p ≡ q
 same_good e = cc
 
-pub not_good : {n : ℕ} {p : List ℕ} → Refused n ≡ Good p → ⊥
-not_good e = let z : ◌≡◌ {A = ℕ} 0 1 = cc in omega arith
+pub not_good : {e : Refusal} {p : List ℕ} → (let a : Output = Err e in a) ≡ Ok p → ⊥
+not_good i = cc
 
--- ---- what a caller knows who sees the refusal number 0
-
--- a definition's refusals have numbers other than 0
-abbrev pub Numbered : Result → Type 0
-Numbered (Good s) = Unit {0}
-Numbered (Refused n) = n ≡ 0 → ⊥
+-- ---- what a caller knows who sees a success
 
 -- a success: what is given, its length, and that it stands at the start of the buffer
-pub record Success (result : Result) (r : Answer) (out' : List ℕ) : Type 0 where
+pub record Success (output : Output) (n : ℕ) (out' : List ℕ) : Type 0 where
   pub given : List ℕ
-  pub is : result ≡ Good given
-  pub long : r.length ≡ length given
-  pub bytes : take r.length out' ≡ given
+  pub is : output ≡ Ok given
+  pub long : n ≡ length given
+  pub bytes : take n out' ≡ given
 
-pub success : (result : Result) (out : List ℕ) (r : Answer) (out' : List ℕ) → Numbered result → Gives result out r out' → r.refusal ≡ 0 → Success result r out'
-success (Refused n) out r out' h g z = absurd (h (sym (ap (λ (a : Answer). a.refusal) g.answer) ∙ z))
-success (Good s) out r out' h g z = cases (ltb (length out) (length s)) g.answer g.bytes
+pub success : (output : Output) (out : List ℕ) (n : ℕ) (out' : List ℕ) → Gives output out (Ok n) out' → Success output n out'
+success (Err e) out n out' g = let no : ◌≡◌ {A = Result ℕ Refusal} (Ok n) (Err e) = g.answer in absurd cc
+success (Ok s) out n out' g = cases (ltb (length out) (length s)) g.answer g.bytes
   where
-    cases : (t : Bool) → r ≡ answer_of (cond t (Refused 1) (Good s)) → out' ≡ over (bytes_of (cond t (Refused 1) (Good s))) out → Success (Good s) r out'
-    cases true a b = absurd (let o : 1 ≡ 0 = sym (ap (λ (x : Answer). x.refusal) a) ∙ z in omega arith)
+    cases : (t : Bool) → (let a : Result ℕ Refusal = Ok n in a) ≡ answer_of (cond t (Err NoRoom) (Ok s)) → out' ≡ over (bytes_of (cond t (Err NoRoom) (Ok s))) out → Success (Ok s) n out'
+    cases true a b = absurd cc
     cases false a b =
-        let n = ap (λ (x : Answer). x.length) a in
-        record { given = s; is = refl; long = n; bytes = ap (take r.length) b ∙ take_at s (drop (length s) out) r.length (sym n) }
+        let long : n ≡ length s = cc in
+        record { given = s; is = refl; long = long; bytes = ap (take n) b ∙ take_at s (drop (length s) out) n (sym long) }
+
+-- ---- the numbers of the refusals: 0 is none, and no two refusals have one number
+
+pub some_number : (e : Refusal) → number_of e ≡ 0 → ⊥
+some_number NoRoom h = omega arith
+some_number WrongSize h = omega arith
+some_number Unsound h = omega arith
+some_number Empty h = omega arith
+some_number TooLong h = omega arith
+some_number NoPacket h = omega arith
+some_number WrongCheck h = omega arith
+some_number NoMessage h = omega arith
+some_number NoParameter h = omega arith
+some_number LongParameter h = omega arith
+some_number LongMessage h = omega arith
+some_number NotFound h = omega arith
+some_number NoTag h = omega arith
+some_number NoLength h = omega arith
+some_number CutValue h = omega arith
+some_number LongValue h = omega arith
+
+numbered : ℕ → Refusal
+numbered n =
+    cond (eqb n 1) NoRoom (
+    cond (eqb n 2) WrongSize (
+    cond (eqb n 3) Unsound (
+    cond (eqb n 10) Empty (
+    cond (eqb n 11) TooLong (
+    cond (eqb n 12) NoPacket (
+    cond (eqb n 13) WrongCheck (
+    cond (eqb n 20) NoMessage (
+    cond (eqb n 21) NoParameter (
+    cond (eqb n 22) LongParameter (
+    cond (eqb n 23) LongMessage (
+    cond (eqb n 24) NotFound (
+    cond (eqb n 30) NoTag (
+    cond (eqb n 31) NoLength (
+    cond (eqb n 32) CutValue (
+    LongValue)))))))))))))))
+
+back : (e : Refusal) → numbered (number_of e) ≡ e
+unfolding numbered
+back NoRoom = refl
+back WrongSize = refl
+back Unsound = refl
+back Empty = refl
+back TooLong = refl
+back NoPacket = refl
+back WrongCheck = refl
+back NoMessage = refl
+back NoParameter = refl
+back LongParameter = refl
+back LongMessage = refl
+back NotFound = refl
+back NoTag = refl
+back NoLength = refl
+back CutValue = refl
+back LongValue = refl
+
+pub same_number : (e f : Refusal) → number_of e ≡ number_of f → e ≡ f
+same_number e f h = sym (back e) ∙ ap numbered h ∙ back f
 
 -- two results that the promise of `put` allows are one, place and buffer
 pub put_one : (out : List ℕ) (at : ℕ) (s : List ℕ) (r q : ℕ) (o o' : List ℕ) → PutIf out at s r o → PutIf out at s q o' → (r ≡ q) × (o ≡ o')

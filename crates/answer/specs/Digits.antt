@@ -1,5 +1,5 @@
 -- Digits and texts, as messages and table records write them.
-use Rattle.std.specs.Prelude.{ℕ, ◌+◌, ◌*◌, ◌%◌, Bool, ◌&&◌, List, get_or, leb}
+use Rattle.std.specs.Prelude.{ℕ, ◌+◌, ◌*◌, ◌%◌, Bool, ◌&&◌, cond, List, get_or, leb, Option, Some, None}
 
 -- the digits 0 to 9
 abbrev pub is_digit : ℕ → Bool
@@ -20,3 +20,10 @@ two_digits_at xs at = digit_of (get_or xs at 0) * 10 + digit_of (get_or xs (at +
 -- the number that three digits at the start of xs write
 abbrev pub three_at : List ℕ → ℕ
 three_at xs = digit_of (get_or xs 0 0) * 100 + digit_of (get_or xs 1 0) * 10 + digit_of (get_or xs 2 0)
+
+-- the same as the code tells it: none, where they are not digits all
+unfoldable pub two_in : List ℕ → Option ℕ
+two_in xs = cond (is_digit (get_or xs 0 0) && is_digit (get_or xs 1 0)) (Some (two_digits_at xs 0)) None
+
+unfoldable pub three_in : List ℕ → Option ℕ
+three_in xs = cond (is_digit (get_or xs 0 0) && (is_digit (get_or xs 1 0) && is_digit (get_or xs 2 0))) (Some (three_at xs)) None

@@ -1,6 +1,11 @@
 -- Bytes cut into pieces that stand one after another, each of which tells its own size: blocks, parameters, tags, objects, records.
 -- `size xs` is the size of the piece that xs starts with, and 0 where it starts with none.
-use Rattle.std.specs.Prelude.{ℕ, zero, suc, pred, Bool, true, false, ◌&&◌, List, [], ◌∷◌, take}
+use Rattle.std.specs.Prelude.{ℕ, zero, suc, pred, Bool, true, false, ◌&&◌, List, [], ◌∷◌, take, Option, Some, None}
+
+-- a size as the code tells it: none, where it is 0
+abbrev pub found : ℕ → Option ℕ
+found zero = None
+found (suc n) = Some (suc n)
 
 -- a piece of n bytes at the start of xs, and then more pieces; none, where n is 0
 abbrev pub piece_then : ℕ → List ℕ → List (List ℕ) → List (List ℕ)

@@ -1,0 +1,26 @@
+-- The refusals of calls by number (scope paper, section Numbered refusals of calls).
+use Rattle.std.specs.Prelude.{ℕ, ◌≡◌}
+use Rattle.answer.specs.declared.refusal.Refusal.{Refusal}
+use Rattle.answer.specs.declared.refusal.Refusal.TheVariants.{NoRoom, WrongSize, Unsound, Empty, TooLong, NoPacket, WrongCheck, NoMessage, NoParameter, LongParameter, LongMessage, NotFound, NoTag, NoLength, CutValue, LongValue}
+
+-- THE NUMBER of a refusal
+abbrev pub number_of : Refusal → ℕ
+number_of NoRoom = 1
+number_of WrongSize = 2
+number_of Unsound = 3
+number_of Empty = 10
+number_of TooLong = 11
+number_of NoPacket = 12
+number_of WrongCheck = 13
+number_of NoMessage = 20
+number_of NoParameter = 21
+number_of LongParameter = 22
+number_of LongMessage = 23
+number_of NotFound = 24
+number_of NoTag = 30
+number_of NoLength = 31
+number_of CutValue = 32
+number_of LongValue = 33
+
+abbrev pub IsNumberOf : Refusal → ℕ → Type 0
+IsNumberOf refusal n = n ≡ number_of refusal

@@ -7,12 +7,13 @@ use native.Mathlib.Omega.{arith}
 use lib.ListN.{length, take, drop}
 use lib.Seq.{take_at}
 use lib.Dec.{ltb, eqb}
-use Rattle.std.specs.Prelude.{Result, Ok, Err}
+use Rattle.std.specs.Prelude.{Option, Result, Ok, Err}
 use Rattle.answer.specs.declared.refusal.Refusal.{Refusal}
 use Rattle.answer.specs.declared.refusal.Refusal.TheVariants.{NoRoom, WrongSize, Unsound, Empty, TooLong, NoPacket, WrongCheck, NoMessage, NoParameter, LongParameter, LongMessage, NotFound, NoTag, NoLength, CutValue, LongValue}
-use Rattle.answer.specs.Refusals.{number_of}
+use Rattle.answer.specs.Refusals.{number_of, IsNumberOf}
+use Rattle.answer.specs.Pieces.{found, rest, whole}
 use Rattle.answer.specs.Answers.{Output, Gives, answer_of, bytes_of, over}
-use Rattle.answer.specs.Digits.{is_digit, is_text, digit_of}
+use Rattle.answer.specs.Digits.{is_digit, is_text, digit_of, two_in, three_in}
 use Rattle.answer.specs.Laid.{PutIf}
 
 -- ONE RESULT: two results of a call that its promise allows for one entry are one, answer and buffer
@@ -120,3 +121,23 @@ is_text_one b r s e f = e ∙ sym f
 
 pub digit_of_one : (b r s : ℕ) → r ≡ digit_of b → s ≡ digit_of b → r ≡ s
 digit_of_one b r s e f = e ∙ sym f
+
+pub two_digits_one : (s : List ℕ) (r q : Option ℕ) → r ≡ two_in s → q ≡ two_in s → r ≡ q
+two_digits_one s r q e f = e ∙ sym f
+
+pub three_digits_one : (s : List ℕ) (r q : Option ℕ) → r ≡ three_in s → q ≡ three_in s → r ≡ q
+three_digits_one s r q e f = e ∙ sym f
+
+-- two numbers that the conversion of a refusal allows are one
+pub number_one : (e : Refusal) (r s : ℕ) → IsNumberOf e r → IsNumberOf e s → r ≡ s
+number_one e r s i j = i ∙ sym j
+
+-- and two answers of a walk over pieces: a size, what is left, and whether nothing is
+pub size_in_one : (size : List ℕ → ℕ) (s : List ℕ) (r q : Option ℕ) → r ≡ found (size s) → q ≡ found (size s) → r ≡ q
+size_in_one size s r q e f = e ∙ sym f
+
+pub rest_of_one : (size : List ℕ → ℕ) (s r q : List ℕ) → r ≡ rest size s → q ≡ rest size s → r ≡ q
+rest_of_one size s r q e f = e ∙ sym f
+
+pub is_whole_one : (size : List ℕ → ℕ) (s : List ℕ) (r q : Bool) → r ≡ whole size s → q ≡ whole size s → r ≡ q
+is_whole_one size s r q e f = e ∙ sym f

@@ -1,5 +1,5 @@
 -- The refusals of calls by number (scope paper, section Numbered refusals of calls).
-use Rattle.std.specs.Prelude.{ℕ, ◌≡◌}
+use Rattle.std.specs.Prelude.{ℕ, ◌≡◌, Result, Ok, Err}
 use Rattle.answer.specs.declared.refusal.Refusal.{Refusal}
 use Rattle.answer.specs.declared.refusal.Refusal.TheVariants.{NoRoom, WrongSize, Unsound, Empty, TooLong, NoPacket, WrongCheck, NoMessage, NoParameter, LongParameter, LongMessage, NotFound, NoTag, NoLength, CutValue, LongValue}
 
@@ -24,3 +24,8 @@ number_of LongValue = 33
 
 abbrev pub IsNumberOf : Refusal → ℕ → Type 0
 IsNumberOf refusal n = n ≡ number_of refusal
+
+-- an answer by number: 0 where it is no refusal
+abbrev pub number_in : {A : Type 0} → Result A Refusal → ℕ
+number_in (Ok x) = 0
+number_in (Err refusal) = number_of refusal

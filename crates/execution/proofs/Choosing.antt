@@ -1,27 +1,25 @@
 -- The laws of what a test picks: the parts of a judgement, and what each command leaves and is answered.
 use mathlib.Core.Path.{◌≡◌, refl, sym, ap, ◌∙◌}
-use mathlib.Core.Bool.{Bool, true, false, ◌&&◌, ◌||◌, cond, true≢false, false≢true}
+use mathlib.Core.Bool.{Bool, true, false, cond, true≢false, false≢true}
 use mathlib.Core.List.{List}
-use Prim.Native.Nat.{ℕ, ◌-◌}
-use lib.ListN.{length, take, drop}
-use borrow.Author.Tests.{eq-eqb, ne_eqb}
-use Rattle.answer.proofs.Parts.{rest_part}
+use Prim.Native.Nat.{ℕ}
+use lib.ListN.{length}
+use lib.Dec.{eqb}
+use Rattle.std.specs.Cmp.Lexicographic.{pointwise}
 use Rattle.records.specs.Store.{zeros}
-use Rattle.tables.specs.declared.Load.{Load}
 use Rattle.tables.specs.declared.Closed.{Closed}
-use Rattle.tables.specs.Loading.{Adds}
 use Rattle.tables.specs.Closing.{Closes, new_version, new_versions, version_of}
 use Rattle.command.specs.declared.Command.{Command}
 use Rattle.command.specs.declared.Command.TheVariants.{Tlr}
-use Rattle.command.specs.Texts.{ascii, starts, all_text}
+use Rattle.command.specs.Texts.{ascii}
 use Rattle.command.specs.Command.{command_of}
 use Rattle.execution.specs.declared.OpenLoad.{OpenLoad}
 use Rattle.execution.specs.declared.Tables.{Tables}
-use Rattle.execution.specs.declared.Executed.{Executed}
+use Rattle.execution.specs.declared.Response.{Response}
 use Rattle.execution.specs.CommandTable.{version_in, block_in, same, response_to}
-use Rattle.execution.specs.Responses.{one_of, six_bytes, gives_version}
 use Rattle.execution.specs.Stored.{Stored, stored_as, no_load}
-use Rattle.execution.specs.Promise.{tables_with, new_load, grown, stocked_in, fed_in, accepted_in, replaced_in, dropped_in, ended_in, executed_as, executed, responded, response_with, Executes}
+use Rattle.execution.specs.Promise.{Executed, tables_with, new_load, grown, stocked_in, fed_in, accepted_in, replaced_in, dropped_in, ended_in, executed_as, executed, responded, response_with, Executes}
+use Rattle.execution.proofs.Same.{same_is}
 use Rattle.execution.specs.Steps.{executed_of, Leaves, after_tle, tle_response, Ends}
 
 -- ---- a test
@@ -34,36 +32,19 @@ left : {A : Type 0} (b : Bool) (x y : A) → b ≡ false → cond b x y ≡ y
 left true x y e = absurd (true≢false e)
 left false x y e = refl
 
--- ---- responses
-
-module _ (p : List ℕ) where
-  pub six_by : (a b c d e f g h i j k l : Bool) → a ≡ same (ascii "OPN000") p → b ≡ same (ascii "GTS011") p → c ≡ same (ascii "TLI000") p → d ≡ same (ascii "TLI020") p
-      → e ≡ same (ascii "TLI011") p → f ≡ same (ascii "TLR000") p → g ≡ same (ascii "TLR010") p → h ≡ same (ascii "TLR011") p → i ≡ same (ascii "TLE000") p
-      → j ≡ same (ascii "TLE010") p → k ≡ same (ascii "TLE021") p → l ≡ same (ascii "ERR010") p
-      → (a || (b || (c || (d || (e || (f || (g || (h || (i || (j || (k || (l || false)))))))))))) ≡ one_of p six_bytes
-  unfolding one_of
-  six_by a b c d e f g h i j k l ea eb ec ed ee ef eg eh ei ej ek el = rw (ea, eb, ec, ed, ee, ef, eg, eh, ei, ej, ek, el) refl
-
-  pub given_long : (length p ≡ 19 → ⊥) → false ≡ gives_version p
-  unfolding gives_version
-  given_long h = rw (ne_eqb (length p) 19 h) refl
-
-  pub given_by : (s t : Bool) → length p ≡ 19 → s ≡ starts (ascii "GTS000010") p → t ≡ all_text (take (length p - 9) (drop 9 p)) → (s && t) ≡ gives_version p
-  unfolding gives_version
-  given_by s t h e f = rw (e, f, eq-eqb (length p) 19 h, rest_part p 9) refl
-
 -- ---- TLI and TLR
 
 -- TLI: the load is opened, and the text hangs on whether the version is held
-pub leaves_opened : (t : Tables) (n : ℕ) (p loading loading' v text : List ℕ) (held : Bool) (l : OpenLoad) (next : Tables) (r : Executed)
-    → v ≡ version_in p → held ≡ same v (version_of n t.versions) → l ≡ new_load n v → next ≡ tables_with t l
-    → text ≡ cond held (ascii "TLI000") (ascii "TLI020") → r ≡ executed_of next text → loading' ≡ zeros (length loading)
-    → Leaves (tables_with t (new_load n (version_in p))) (cond (same (version_in p) (version_of n t.versions)) (ascii "TLI000") (ascii "TLI020")) (zeros (length loading)) r loading'
-leaves_opened t n p loading loading' v text held l next r ev eh el en et er es =
-    let e : next ≡ tables_with t (new_load n (version_in p)) = en ∙ ap (tables_with t) (el ∙ ap (new_load n) ev) in
-    let f : text ≡ cond (same (version_in p) (version_of n t.versions)) (ascii "TLI000") (ascii "TLI020") =
-    et ∙ ap (λ (b : Bool). cond b (ascii "TLI000") (ascii "TLI020")) (eh ∙ ap (λ (x : List ℕ). same x (version_of n t.versions)) ev) in
-    record { is = er ∙ ap (λ (x : Tables). executed_of x text) e ∙ ap (executed_of (tables_with t (new_load n (version_in p)))) f; store = es }
+pub leaves_opened : (t : Tables) (n : ℕ) (p loading loading' v w held : List ℕ) (b : Bool) (l : OpenLoad) (r : Response)
+    → v ≡ version_in p → w ≡ v → held ≡ version_of n t.versions → pointwise eqb w held ≡ b → l ≡ new_load n v
+    → r ≡ response_with (cond b (ascii "TLI000") (ascii "TLI020")) → loading' ≡ zeros (length loading)
+    → Leaves (tables_with t (new_load n (version_in p))) (cond (same (version_in p) (version_of n t.versions)) (ascii "TLI000") (ascii "TLI020")) (zeros (length loading)) (record { tables = tables_with t l; response = r }) loading'
+leaves_opened t n p loading loading' v w held b l r ev ew eh eb el er es =
+    let is : b ≡ same (version_in p) (version_of n t.versions) =
+    sym eb ∙ same_is w held ∙ ap (λ (x : List ℕ). same x held) (ew ∙ ev) ∙ ap (same (version_in p)) eh in
+    let load : l ≡ new_load n (version_in p) = el ∙ ap (new_load n) ev in
+    let said = er ∙ ap (λ (x : Bool). response_with (cond x (ascii "TLI000") (ascii "TLI020"))) is in
+    record { is = (λ i. record { tables = tables_with t (load i); response = said i }); store = es }
 
 module _ (t : Tables) (p loading loading' : List ℕ) where
   -- what TLR leaves, by whether a load is open
@@ -71,18 +52,6 @@ module _ (t : Tables) (p loading loading' : List ℕ) where
   FedBy opened r =
       Leaves (cond opened (tables_with t (grown t.load (stocked_in t.load loading (block_in p)).load)) t) (cond opened (ascii "TLR000") (ascii "TLR010"))
       (cond opened (stocked_in t.load loading (block_in p)).bytes loading) r loading'
-
-  pub leaves_so : (opened : Bool) (r : Executed) → opened ≡ false → r ≡ executed_of t (ascii "TLR010") → loading' ≡ loading → FedBy opened r
-  leaves_so true r o e f = absurd (true≢false o)
-  leaves_so false r o e f = record { is = e; store = f }
-
-  pub leaves_grown : (opened : Bool) (k : Load) (l : OpenLoad) (next : Tables) (r : Executed) → opened ≡ true
-      → Adds t.load.network t.load.kept (take (length p - 6) (drop 6 p)) loading k loading' → l ≡ grown t.load k → next ≡ tables_with t l
-      → r ≡ executed_of next (ascii "TLR000") → FedBy opened r
-  leaves_grown false k l next r o a el en er = absurd (false≢true o)
-  leaves_grown true k l next r o a el en er =
-      let b : Adds t.load.network t.load.kept (drop 6 p) loading k loading' = rw (← rest_part p 6) a in
-      record { is = er ∙ ap (λ (x : Tables). executed_of x (ascii "TLR000")) (en ∙ ap (tables_with t) (el ∙ ap (grown t.load) b.load')); store = b.store' }
 
 -- ---- TLE
 
@@ -96,34 +65,27 @@ module _ (s : Stored) where
   }
 
 module _ (t : Tables) (live loading : List ℕ) where
-  -- with no load open nothing is touched
-  pub ends_none : t.load.opened ≡ false → (r : Executed) → r ≡ executed_of t (ascii "TLE010") → Ends (stored_as t live loading) r live loading
-  ends_none o r e =
-      let s = stored_as t live loading in
-      ends_by s s (ascii "TLE010") (left t.load.opened (ended_in s) s o)
-      (left t.load.opened (cond (accepted_in s) (ascii "TLE000") (ascii "TLE021")) (ascii "TLE010") o) r live loading e refl refl
-
-  module _ (live' loading' : List ℕ) (k : Closed) (o : t.load.opened ≡ true) (c : Closes t.load.network t.live t.load.kept live loading k live' loading') where
+  module _ (live' loading' : List ℕ) (o : t.load.opened ≡ true) (k : Closed) (c : Closes t.load.network t.live t.load.kept live loading k live' loading') where
     accepted : k.done ≡ accepted_in (stored_as t live loading)
     unfolding accepted_in
     accepted = c.done
 
     -- past a limit the load is dropped
-    pub ends_dropped : k.done ≡ false → (l : OpenLoad) (next : Tables) (r : Executed) → l ≡ no_load → next ≡ tables_with t l → r ≡ executed_of next (ascii "TLE021")
-        → Ends (stored_as t live loading) r live' loading'
-    ends_dropped d l next r el en er =
+    pub ends_dropped : k.done ≡ false → (l : OpenLoad) (r : Response) → l ≡ no_load → r ≡ response_with (ascii "TLE021")
+        → Ends (stored_as t live loading) (record { tables = tables_with t l; response = r }) live' loading'
+    ends_dropped d l r el er =
         let s = stored_as t live loading in
         let q = sym accepted ∙ d in
         ends_by s (dropped_in s) (ascii "TLE021") (picked t.load.opened (ended_in s) s o ∙ left (accepted_in s) (replaced_in s) (dropped_in s) q)
         (picked t.load.opened (cond (accepted_in s) (ascii "TLE000") (ascii "TLE021")) (ascii "TLE010") o ∙ left (accepted_in s) (ascii "TLE000") (ascii "TLE021") q)
-        r live' loading' (er ∙ ap (λ (x : Tables). executed_of x (ascii "TLE021")) (en ∙ ap (tables_with t) el))
+        (record { tables = tables_with t l; response = r }) live' loading' (λ i. record { tables = tables_with t (el i); response = er i })
         (c.store ∙ left _ _ live (sym c.done ∙ d)) c.zeroed
 
     -- else the new set is the live one
-    pub ends_replaced : k.done ≡ true → (v versions : List ℕ) (l : OpenLoad) (r : Executed) → v ≡ new_version t.load.any t.load.version
+    pub ends_replaced : k.done ≡ true → (v versions : List ℕ) (l : OpenLoad) (r : Response) → v ≡ new_version t.load.any t.load.version
         → versions ≡ new_versions t.load.network v t.versions → l ≡ no_load
-        → r ≡ executed_of (record { versions = versions; live = record { used = k.used; records = k.records }; load = l }) (ascii "TLE000")
-        → Ends (stored_as t live loading) r live' loading'
+        → r ≡ response_with (ascii "TLE000")
+        → Ends (stored_as t live loading) (record { tables = record { versions = versions; live = record { used = k.used; records = k.records }; load = l }; response = r }) live' loading'
     ends_replaced d v versions l r ev en el er =
         let s = stored_as t live loading in
         let q = sym accepted ∙ d in
@@ -135,7 +97,7 @@ module _ (t : Tables) (live loading : List ℕ) where
         λ i. record { versions = w i; live = record { used = u i; records = n i }; load = el i } in
         ends_by s (replaced_in s) (ascii "TLE000") (picked t.load.opened (ended_in s) s o ∙ picked (accepted_in s) (replaced_in s) (dropped_in s) q)
         (picked t.load.opened (cond (accepted_in s) (ascii "TLE000") (ascii "TLE021")) (ascii "TLE010") o ∙ picked (accepted_in s) (ascii "TLE000") (ascii "TLE021") q)
-        r live' loading' (er ∙ ap (λ (x : Tables). executed_of x (ascii "TLE000")) e)
+        _ live' loading' (λ i. record { tables = e i; response = er i })
         (c.store ∙ picked _ _ live z) c.zeroed
 
 -- ---- any command
@@ -151,6 +113,13 @@ executes_by p s k e r live' loading' er el es = record {
   live_is = el ∙ ap (λ (c : Command). (executed_as c p s).live) (sym e);
   loading_is = es ∙ ap (λ (c : Command). (executed_as c p s).loading) (sym e);
 }
+
+-- and of one that leaves all as it is
+pub answers_by : (p : List ℕ) (s : Stored) (k : Command) → command_of p ≡ k → (r : Response) → r ≡ response_with (response_to k p s.tables.versions s.tables.load.opened (accepted_in s))
+    → executed_as k p s ≡ s → Executes p s (record { tables = s.tables; response = r }) s.live s.loading
+answers_by p s k e r er same =
+    executes_by p s k e (record { tables = s.tables; response = r }) s.live s.loading
+    (λ i. record { tables = (sym same i).tables; response = er i }) (ap (λ (x : Stored). x.live) (sym same)) (ap (λ (x : Stored). x.loading) (sym same))
 
 -- TLR, by what it leaves
 pub executes_fed : (p : List ℕ) (s : Stored) → command_of p ≡ Tlr → (r : Executed) (loading' : List ℕ) → FedBy s.tables p s.loading loading' s.tables.load.opened r

@@ -9,3 +9,4 @@ pub mod Keeping
 pub mod Laying
 pub mod Choosing
 pub mod Promises
+pub mod Same

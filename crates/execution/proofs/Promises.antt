@@ -4,11 +4,10 @@ use mathlib.Core.Bool.{Bool}
 use mathlib.Core.List.{List}
 use Prim.Native.Nat.{ℕ}
 use Rattle.execution.specs.declared.Tables.{Tables}
-use Rattle.execution.specs.declared.Executed.{Executed}
 use Rattle.execution.specs.Core.{fresh_core}
 use Rattle.execution.specs.Responses.{is_response}
 use Rattle.execution.specs.Stored.{Stored, stored_as, stored_of, sound_tables}
-use Rattle.execution.specs.Promise.{Executes, Drops}
+use Rattle.execution.specs.Promise.{Executed, Executes, Drops}
 
 pub fresh_tables_one : (r s : Tables) → r ≡ (stored_of fresh_core).tables → s ≡ (stored_of fresh_core).tables → r ≡ s
 fresh_tables_one r s e f = e ∙ sym f

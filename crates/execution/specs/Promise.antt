@@ -10,7 +10,6 @@ use Rattle.command.specs.Command.{command_of}
 use Rattle.execution.specs.declared.OpenLoad.{OpenLoad}
 use Rattle.execution.specs.declared.Tables.{Tables}
 use Rattle.execution.specs.declared.Response.{Response}
-use Rattle.execution.specs.declared.Executed.{Executed}
 use Rattle.execution.specs.CommandTable.{version_in, block_in, response_to}
 use Rattle.execution.specs.Stored.{Stored, no_load}
 
@@ -88,6 +87,11 @@ responded p s = response_to (command_of p) p s.tables.versions s.tables.load.ope
 -- a response, with zeros after its payload
 abbrev pub response_with : List ℕ → Response
 response_with p = record { payload = p ++ zeros (19 - length p); length = length p }
+
+-- what is left by a command, and its response
+pub record Executed : Type 0 where
+  pub tables : Tables
+  pub response : Response
 
 -- THE PROMISE of executing a payload: the struct, the response, and every byte of both stores
 pub record Executes (p : List ℕ) (s : Stored) (r : Executed) (live' loading' : List ℕ) : Type 0 where

@@ -1,10 +1,9 @@
 -- What the private functions come to. No public promise cites it, and no reader has to believe it.
 use Rattle.std.specs.Prelude.{◌≡◌, cond, List, ℕ}
 use Rattle.execution.specs.declared.Tables.{Tables}
-use Rattle.execution.specs.declared.Executed.{Executed}
 use Rattle.command.specs.Texts.{ascii}
 use Rattle.execution.specs.Stored.{Stored}
-use Rattle.execution.specs.Promise.{accepted_in, ended_in, response_with}
+use Rattle.execution.specs.Promise.{Executed, accepted_in, ended_in, response_with}
 
 -- the struct after a command, and its response
 abbrev pub executed_of : Tables → List ℕ → Executed

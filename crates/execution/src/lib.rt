@@ -11,8 +11,7 @@ ghost use Rattle.execution.specs.Stored.{stored_of, stored_as};
 ghost use Rattle.execution.specs.Promise.{Executes};
 
 use command::{Command, command_of};
-pub use judging::{is_response, tables_sound};
-pub use loading::drop_load;
+pub use judging::is_response;
 use tables::{Extent, Load};
 
 // The open load: what TLI named, the extent of the records kept and whether one was not, and whether a TLR was answered 000. With no load open
@@ -41,42 +40,35 @@ pub struct Response {
     pub length: usize,
 }
 
-// What is left by a command, and its response.
-#[derive(Clone, Copy)]
-pub struct Executed {
-    pub tables: Tables,
-    pub response: Response,
-}
-
-// No record, no open load, and ten "0" bytes for every version.
-pub fn fresh_tables() -> Tables
-    ensures { result ≡ (stored_of fresh_core).tables }
-{
-    let versions = [0x30u8; 1000];
-    Tables {
-        versions,
-        live: Extent {
-            used: 0,
-            records: 0,
-        },
-        load: loading::no_load(),
+impl Tables {
+    // No record, no open load, and ten "0" bytes for every version.
+    pub fn fresh() -> Tables
+        ensures { result ≡ (stored_of fresh_core).tables }
+    {
+        Tables {
+            versions: [0x30; 1000],
+            live: Extent {
+                used: 0,
+                records: 0,
+            },
+            load: OpenLoad::none(),
+        }
     }
-}
 
-// Executes `payload`, once.
-pub fn execute(tables: Tables, payload: &[u8], live: &mut [u8], loading: &mut [u8]) -> Executed
-    ensures { Executes payload.now (stored_as tables live.old loading.old) result live.new loading.new }
-{
-    let asked = command_of(payload);
-    match asked {
-        Command::Opn => responding::with_text(tables, b"OPN000"),
-        Command::Gts(network) => responding::with_version(tables, network),
-        Command::GtsWrong => responding::with_text(tables, b"GTS011"),
-        Command::Tli(network) => loading::open_load(tables, network, payload, loading),
-        Command::TliWrong => responding::with_text(tables, b"TLI011"),
-        Command::Tlr => loading::add_records(tables, payload, loading),
-        Command::TlrWrong => responding::wrong_records(tables),
-        Command::Tle => loading::end_load(tables, live, loading),
-        Command::Unknown => responding::with_text(tables, b"ERR010"),
+    // Executes `payload`, once.
+    pub fn execute(&mut self, payload: &[u8], live: &mut [u8], loading: &mut [u8]) -> Response
+        ensures { Executes payload.now (stored_as self.old live.old loading.old) (record { tables = self.new; response = result }) live.new loading.new }
+    {
+        match command_of(payload) {
+            Command::Opn => Response::text(b"OPN000"),
+            Command::Gts(network) => self.version_response(network),
+            Command::GtsWrong => Response::text(b"GTS011"),
+            Command::Tli(network) => self.open_load(network, payload, loading),
+            Command::TliWrong => Response::text(b"TLI011"),
+            Command::Tlr => self.add_records(payload, loading),
+            Command::TlrWrong => self.wrong_records(),
+            Command::Tle => self.end_load(live, loading),
+            Command::Unknown => Response::text(b"ERR010"),
+        }
     }
 }

@@ -1,8 +1,14 @@
 -- `execution::judging::is_six_bytes` meets its contract: by the twelve texts.
-use Rattle.execution.proofs.Choosing.{six_by}
+use Rattle.std.proofs.Common.{rules, tests, List, ℕ, ◌∙◌}
+use Rattle.std.proofs.Math.Dec.{eqb}
+use Rattle.std.proofs.lemmas.Iterator.{YieldsList-from_slice}
+use Rattle.std.proofs.lemmas.Iterator.Search.{any_from_yields_List}
+use Rattle.std.specs.Cmp.Lexicographic.{pointwise}
+use Rattle.execution.specs.Responses.{six_bytes}
+use Rattle.execution.proofs.Same.{any_is}
 use Rattle.execution.proofs.judging.is_six_bytes.Goals as goal
 
 pub returns : goal.returns
 returns c =
-    six_by c.args.p.now _ _ _ _ _ _ _ _ _ _ _ _
-    c.equal.ensures c.equal-2.ensures c.equal-3.ensures c.equal-4.ensures c.equal-5.ensures c.equal-6.ensures c.equal-7.ensures c.equal-8.ensures c.equal-9.ensures c.equal-10.ensures c.equal-11.ensures c.equal-12.ensures
+    let p = c.args.p.now in
+    any_from_yields_List (λ (q : List ℕ). pointwise eqb q p) _ _ _ c.any.ensures.ran (YieldsList-from_slice six_bytes cc) (λ x b q k. search (rules, tests)) ∙ any_is p six_bytes

@@ -1,4 +1,4 @@
--- `execution::fresh_tables` meets its contract: field by field.
+-- `execution::Tables::fresh` meets its contract: field by field.
 use mathlib.Core.Path.{ap}
 use mathlib.Core.List.{flatten}
 use lib.ListN.{replicate}
@@ -6,8 +6,8 @@ use Rattle.execution.specs.declared.OpenLoad.{OpenLoad}
 use Rattle.execution.specs.declared.Tables.{Tables}
 use Rattle.execution.specs.Core.{fresh_core}
 use Rattle.execution.specs.Stored.{stored_of}
-use Rattle.execution.proofs.fresh_tables.Goals as goal
+use Rattle.execution.proofs.Tables.fresh.Goals as goal
 
 pub returns : goal.returns
 unfolding stored_of fresh_core flatten
-returns c = ap {B = Tables} (λ (l : OpenLoad). record { versions = replicate 1000 0x30; live = record { used = 0; records = 0 }; load = l }) c.no_load.ensures
+returns c = ap {B = Tables} (λ (l : OpenLoad). record { versions = replicate 1000 0x30; live = record { used = 0; records = 0 }; load = l }) c.none.ensures

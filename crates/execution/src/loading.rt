@@ -10,7 +10,7 @@ ghost use Rattle.execution.specs.Steps.{Leaves, Ends};
 
 use crate::{OpenLoad, Response, Tables};
 use records::zero_store;
-use tables::{Extent, Load, add_block, close_load, versions_after};
+use tables::{Load, add_block, close_load, versions_after};
 
 // A load with no record yet.
 const EMPTY: Load = Load {
@@ -102,16 +102,15 @@ impl Tables {
         if !load.opened {
             return Response::text(b"TLE010");
         }
-        let closed = close_load(live, loading, self.live, load.kept, load.network);
-        self.load = OpenLoad::none();
-        if !closed.done {
+        let Some(extent) = close_load(live, loading, self.live, load.kept, load.network) else {
+            self.drop_load(loading);
             return Response::text(b"TLE021");
-        }
-        self.live = Extent {
-            used: closed.used,
-            records: closed.records,
         };
-        self.versions = versions_after(self.versions, load.network, load.version_after());
+        *self = Tables {
+            versions: versions_after(self.versions, load.network, load.version_after()),
+            live: extent,
+            load: OpenLoad::none(),
+        };
         Response::text(b"TLE000")
     }
 

@@ -4,11 +4,11 @@
 mod refusing;
 
 ghost use Rattle.std.specs.Prelude.{◌≡◌, []};
-ghost use Rattle.state.specs.State.{line_in, held_as, with_line, with_held};
+ghost use Rattle.state.specs.State.{line_in, held_as, with_line, with_held, can_resend};
 
 use execution::{Response, Tables};
 use reception::{Line, Reception};
-pub use refusing::{can_resend, refusal_of, sizes_good};
+pub use refusing::sizes_good;
 
 // The held response, and how often its packet was sent again. With nothing held every field is 0.
 #[derive(Clone, Copy)]
@@ -28,61 +28,53 @@ pub struct Device {
     pub tables: Tables,
 }
 
-// Where the line is.
-pub fn line_of(device: Device) -> Line
-    ensures { result ≡ line_in device }
-{
-    let state = device.reception;
-    Line {
-        state,
-        spoiled: device.spoiled,
-        count: device.count,
+impl Held {
+    // What the field holds with nothing held.
+    pub fn nothing() -> Held
+        ensures { result ≡ held_as [] 0 }
+    {
+        Held {
+            response: Response {
+                payload: [0; 19],
+                length: 0,
+            },
+            times: 0,
+        }
+    }
+
+    // Whether there is a response to send again.
+    pub fn can_resend(&self) -> bool
+        ensures { result ≡ can_resend self.now }
+    {
+        (1 <= self.response.length) & (self.times < 3)
     }
 }
 
-// What the field holds with nothing held.
-pub fn nothing_held() -> Held
-    ensures { result ≡ held_as [] 0 }
-{
-    Held {
-        response: Response {
-            payload: [0u8; 19],
-            length: 0,
-        },
-        times: 0,
+impl Device {
+    // Where the line is.
+    pub fn line(&self) -> Line
+        ensures { result ≡ line_in self.now }
+    {
+        Line {
+            state: self.reception,
+            spoiled: self.spoiled,
+            count: self.count,
+        }
     }
-}
 
-// The device with another line and reception store. An enum is no field to be stored to, so the struct is made anew.
-pub fn with_line(device: Device, line: Line, store: [u8; 2048]) -> Device
-    ensures { result ≡ with_line device line store }
-{
-    let held = device.held;
-    let tables = device.tables;
-    let reception = line.state;
-    Device {
-        reception,
-        spoiled: line.spoiled,
-        count: line.count,
-        store,
-        held,
-        tables,
+    // The line is somewhere else; all else stays.
+    pub fn set_line(&mut self, line: Line)
+        ensures { self.new ≡ with_line self.old line self.old.store }
+    {
+        self.reception = line.state;
+        self.spoiled = line.spoiled;
+        self.count = line.count;
     }
-}
 
-// The device with another held response.
-pub fn with_held(device: Device, held: Held) -> Device
-    ensures { result ≡ with_held device held }
-{
-    let reception = device.reception;
-    let store = device.store;
-    let tables = device.tables;
-    Device {
-        reception,
-        spoiled: device.spoiled,
-        count: device.count,
-        store,
-        held,
-        tables,
+    // Another response is held; all else stays.
+    pub fn set_held(&mut self, held: Held)
+        ensures { self.new ≡ with_held self.old held }
+    {
+        self.held = held;
     }
 }

@@ -12,13 +12,14 @@ use Rattle.reception.specs.declared.Told.{Told}
 use Rattle.reception.specs.declared.Told.TheVariants.{Nothing, Payload, Complete}
 use Rattle.reception.specs.Reception.{taken}
 use Rattle.reception.proofs.Promises.{taken_within}
-use Rattle.gathering.specs.Gathering.{asks_in, placed_in, Got, got_as, gathered, Gathers}
+use Rattle.std.specs.Prelude.{Some, None}
+use Rattle.gathering.specs.Gathering.{asks_in, placed_in, Got, got_as, gathered, asked_of, Gathers}
 
 -- what was gathered, as it is told
 pub gathers : (g : Got) (line : Line) (store : List ℕ) (n : ℕ) (t : Bool) (b : ℕ) → g ≡ got_as line store n t b
-    → Gathers g (record { line = line; taken = n; asked = t; last = b }) store
+    → Gathers g (record { line = line; taken = n; asked = cond t (Some b) None }) store
 gathers g line store n t b e = record {
-  is = λ i. record { line = (sym e i).line; taken = (sym e i).taken; asked = (sym e i).asked; last = (sym e i).last };
+  is = λ i. record { line = (sym e i).line; taken = (sym e i).taken; asked = asked_of (sym e i) };
   store_is = λ i. (sym e i).store;
 }
 

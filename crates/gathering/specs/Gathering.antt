@@ -1,5 +1,5 @@
 -- Gathering: the bytes of a piece up to the one that is answered (scope paper, section Reception).
-use Rattle.std.specs.Prelude.{ℕ, ◌+◌, ◌≡◌, Bool, true, false, ◌&&◌, ◌||◌, cond, List, [], ◌∷◌, set, eqb}
+use Rattle.std.specs.Prelude.{ℕ, ◌+◌, ◌≡◌, Bool, true, false, ◌&&◌, ◌||◌, cond, List, [], ◌∷◌, set, eqb, Option, Some, None}
 use Rattle.reception.specs.declared.Reception.{Reception}
 use Rattle.reception.specs.declared.Reception.TheVariants.{Idle, InData, After13h, FirstCheck, SecondCheck}
 use Rattle.reception.specs.declared.Line.{Line}
@@ -40,7 +40,11 @@ gathered resend line store n (b ∷ bs) =
     cond (asks_in line.state resend b) (got_as line store (n + 1) true b)
     (gathered resend (taken line b).line (placed_in store (taken line b).told) (n + 1) bs)
 
+-- the byte that is answered, if one is
+abbrev pub asked_of : Got → Option ℕ
+asked_of g = cond g.asked (Some g.last) None
+
 -- THE PROMISE: the answer, and every byte of the store
 pub record Gathers (g : Got) (r : Gathered) (store' : List ℕ) : Type 0 where
-  pub is : r ≡ record { line = g.line; taken = g.taken; asked = g.asked; last = g.last }
+  pub is : r ≡ record { line = g.line; taken = g.taken; asked = asked_of g }
   pub store_is : store' ≡ g.store

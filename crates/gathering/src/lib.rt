@@ -1,58 +1,39 @@
 // Bytes up to one that is answered: they move the line and fill the reception store (scope paper, section Reception). Nothing is answered in here.
 #![tactic(auto)]
 
-ghost use Rattle.std.specs.Prelude.{◌≡◌, true};
+ghost use Rattle.std.specs.Prelude.{◌≡◌};
 ghost use Rattle.gathering.specs.Gathering.{asks_in, placed_in, gathered, Gathers};
 
-use reception::{Line, Reception, Told, take};
+use reception::{Line, Reception, Told};
 
-// Where the line is before the byte that is answered, if one is, how many bytes are taken with it, and that byte.
-#[derive(Drop)]
+// Where the line is before the byte that is answered, how many bytes are taken with it, and that byte, if one is answered.
+#[derive(Clone, Copy, Debug, PartialEq, Eq)]
 pub struct Gathered {
     pub line: Line,
     pub taken: usize,
-    pub asked: bool,
-    pub last: u8,
+    pub asked: Option<u8>,
 }
 
 // Whether `b` is answered: CAN between packets, NAK too where there is something to send again, and a second check byte.
 fn asks(line: Line, b: u8, resend: bool) -> bool
     ensures { result ≡ asks_in line.state resend b }
 {
-    let state = line.state;
-    match state {
+    match line.state {
         Reception::Idle => (b == 0x18) | ((b == 0x15) & resend),
-        Reception::InData => false,
-        Reception::After13h => false,
-        Reception::FirstCheck => false,
         Reception::SecondCheck(_) => true,
+        _ => false,
     }
 }
 
-// Puts a payload byte in its place.
+// Puts a payload byte in its place. (`get_mut` would leave a proof the store's length alone, and no byte of it.)
+#[tactic(auto, using(crate::proofs::Kept::set_past))]
 fn place(store: &mut [u8], told: Told)
     ensures { store.new ≡ placed_in store.old told }
 {
-    match told {
-        Told::Nothing => {}
-        Told::Payload(at, b) => {
-            if at < store.len() {
-                store[at] = b;
-            }
+    if let Told::Payload(at, b) = told {
+        if at < store.len() {
+            store[at] = b;
         }
-        Told::Complete(_, _) => {}
-    }
-}
-
-// The byte `last` is answered, and `taken` bytes are taken with it.
-fn stop_at(line: Line, taken: usize, last: u8) -> Gathered
-    ensures { result ≡ record { line = line; taken = taken; asked = true; last = last } }
-{
-    Gathered {
-        line,
-        taken,
-        asked: true,
-        last,
     }
 }
 
@@ -61,22 +42,21 @@ pub fn gather(line: Line, store: &mut [u8], piece: &[u8], resend: bool) -> Gathe
     ensures { Gathers (gathered resend line store.old 0 piece.now) result store.new }
 {
     let mut at = line;
-    let mut i = 0;
-    while i < piece.len() {
-        let b = piece[i];
-        i += 1;
+    for (i, &b) in piece.iter().enumerate() {
         if asks(at, b, resend) {
-            return stop_at(at, i, b);
+            return Gathered {
+                line: at,
+                taken: i + 1,
+                asked: Some(b),
+            };
         }
-        let took = take(at, b);
-        let told = took.told;
-        place(store, told);
+        let took = at.take(b);
+        place(store, took.told);
         at = took.line;
     }
     Gathered {
         line: at,
-        taken: i,
-        asked: false,
-        last: 0,
+        taken: piece.len(),
+        asked: None,
     }
 }

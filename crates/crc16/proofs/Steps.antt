@@ -5,6 +5,8 @@ use mathlib.Core.List.{List, [], ◌∷◌, ◌++◌, append-nil, append_assoc}
 use Prim.Native.Nat.{ℕ, ◌%◌, ◌^◌, ◌<◌}
 use native.Mathlib.Omega.{arith}
 use lib.ListN.{length}
+use lib.Seq.{append_snoc}
+use Rattle.std.specs.Prelude.{fold}
 use Rattle.crc16.specs.Crc.{zeros, divide, remainder, odd, bits, bits_of, number, check}
 use Rattle.crc16.specs.Register.{fed, stepped, register_after}
 use Rattle.crc16.proofs.Bits.{number_bits, bits_number}
@@ -64,3 +66,15 @@ check_is p = refl
 -- ETB after a payload makes it the check
 pub step_check : (p : List ℕ) → stepped (register_after p) 0x17 ≡ check p
 step_check p = step_after p 0x17 ∙ check_is p
+
+-- the bytes of a text one after another, by a fold
+fold_after : (s t : List ℕ) → fold stepped (register_after s) t ≡ register_after (s ++ t)
+fold_after s [] = ap register_after (sym (append-nil s))
+fold_after s (b ∷ t) =
+    ap (λ (r : ℕ). fold stepped r t) (step_after s b) ∙ fold_after (s ++ (b ∷ [])) t ∙ ap register_after (append_snoc s b t)
+
+pub check_fold : (p : List ℕ) → stepped (fold stepped 0 p) 0x17 ≡ check p
+check_fold p =
+    ap (λ (r : ℕ). stepped (fold stepped r p) 0x17) (sym step_none)
+    ∙ ap (λ (r : ℕ). stepped r 0x17) (fold_after [] p)
+    ∙ step_check p

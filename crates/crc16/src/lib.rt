@@ -3,7 +3,7 @@
 #![tactic(auto)]
 
 ghost use Rattle.std.specs.Prelude.{◌≡◌, false, ◌∷◌, []};
-ghost use Rattle.crc16.specs.Crc.{bits, bits_of, check};
+ghost use Rattle.crc16.specs.Crc.{bits, check};
 ghost use Rattle.crc16.specs.Register.{fed, stepped};
 
 // The polynomial without its leading term, x^16, which is the bit that leaves the register.
@@ -28,21 +28,8 @@ fn one_byte(register: u16, byte: u8) -> u16
     ensures { bits 16 result ≡ fed (bits 16 register) (bits 8 byte) }
 {
     let mut r = register ^ ((byte as u16) << 8);
-    for k in 0..8usize {
+    for _ in 0..8usize {
         r = one_bit(r);
-    }
-    r
-}
-
-// The register after the bytes of `s`.
-fn all_bytes(register: u16, s: &[u8]) -> u16
-    ensures { bits 16 result ≡ fed (bits 16 register) (bits_of s.now) }
-{
-    let mut r = register;
-    let mut i = 0;
-    while i < s.len() {
-        r = one_byte(r, s[i]);
-        i += 1;
     }
     r
 }
@@ -59,7 +46,8 @@ pub fn step(register: u16, byte: u8) -> u16
 pub fn check_of(payload: &[u8]) -> u16
     ensures { result ≡ check payload.now }
 {
-    let text = all_bytes(0, payload);
-    let ended = one_byte(text, ETB);
-    ended
+    let text = payload
+        .iter()
+        .fold(0, |register, &byte| step(register, byte));
+    step(text, ETB)
 }

@@ -1,5 +1,4 @@
--- `crc16::one_byte` meets its contract. The loop's invariant: the register, fed with a zero for each turn left, gives what `reg` gives with the byte.
--- The measure is the number of turns that are left.
+-- The byte stands in the upper half, and each turn feeds the register a zero.
 use mathlib.Core.Path.{◌≡◌, sym, ap, ap₂, ◌∙◌}
 use mathlib.Core.Bool.{Bool, false}
 use mathlib.Core.List.{List, [], ◌∷◌, ◌++◌, append-nil, append_assoc}
@@ -50,17 +49,17 @@ next r s k h e =
     ∙ fed_append (false ∷ []) (zeros (8 - (k + 1))) (bits 16 r) (bits_length 16 r)
     ∙ ap (λ (l : List Bool). fed l (zeros (8 - (k + 1)))) (sym e)
 
-pub loop-k-init : goal.loop-k-init
-loop-k-init c = (search rules, start c.args.register c.args.byte)
+pub loop-init : goal.loop-init
+loop-init c = (search rules, start c.args.register c.args.byte)
 
-pub loop-k-preserved : goal.loop-k-preserved
-loop-k-preserved c =
-    let l = c.loop-k in
-    (search rules, l.invariant.1 ∙ next l.r c.one_bit-r.result l.k (search rules) c.one_bit-r.ensures)
+pub loop-preserved : goal.loop-preserved
+loop-preserved c =
+    let l = c.loop in
+    (search rules, l.invariant.1 ∙ next l.r c.one_bit-r.result l.counter (search rules) c.one_bit-r.ensures)
 
 pub returns : goal.returns
 unfolding zeros
 returns c =
-    let l = c.loop-k in
-    let z : 8 - l.k ≡ 0 = omega arith in
+    let l = c.loop in
+    let z : 8 - l.counter ≡ 0 = omega arith in
     sym (l.invariant.1 ∙ ap (λ (n : ℕ). fed (bits 16 l.r) (zeros n)) z ∙ fed_nil (bits 16 l.r) (bits_length 16 l.r))

@@ -4,17 +4,18 @@ use mathlib.Core.Bool.{Bool}
 use mathlib.Core.List.{List}
 use Prim.Native.Nat.{ℕ}
 use lib.ListN.{length, drop}
-use Rattle.records.specs.declared.Found.{Found}
+use Rattle.std.specs.Prelude.{Option}
+use Rattle.records.specs.declared.record.Record.{Record}
 use Rattle.records.specs.Record.{found_in, good_block, takes_as, names_as}
 use Rattle.records.specs.Store.{zeros, all_zero, sound_store}
 
-pub record_at_one : (s : List ℕ) (at : ℕ) (r t : Found) → r ≡ found_in (drop at s) → t ≡ found_in (drop at s) → r ≡ t
+pub record_at_one : (s : List ℕ) (at : ℕ) (r t : Option Record) → r ≡ found_in (drop at s) → t ≡ found_in (drop at s) → r ≡ t
 record_at_one s at r t e f = e ∙ sym f
 
-pub is_taken_one : (rec : Found) (network : ℕ) (r s : Bool) → r ≡ takes_as network rec.kind rec.network → s ≡ takes_as network rec.kind rec.network → r ≡ s
+pub is_taken_one : (rec : Record) (network : ℕ) (r s : Bool) → r ≡ takes_as network rec.kind rec.network → s ≡ takes_as network rec.kind rec.network → r ≡ s
 is_taken_one rec network r s e f = e ∙ sym f
 
-pub is_named_one : (rec : Found) (network : ℕ) (r s : Bool) → r ≡ names_as network rec.network → s ≡ names_as network rec.network → r ≡ s
+pub is_named_one : (rec : Record) (network : ℕ) (r s : Bool) → r ≡ names_as network rec.network → s ≡ names_as network rec.network → r ≡ s
 is_named_one rec network r s e f = e ∙ sym f
 
 pub check_store_one : (network used records : ℕ) (store : List ℕ) (r s : Bool) → r ≡ sound_store network used records store → s ≡ sound_store network used records store → r ≡ s

@@ -1,21 +1,24 @@
 -- The laws of records: the size of one is told by its own bytes, is 8 at least, and a zero byte starts none; its kind and network are told with it.
 use mathlib.Core.Path.{◌≡◌, refl, sym, ap, ◌∙◌}
-use mathlib.Core.Bool.{Bool, true, false, ◌&&◌, cond}
+use mathlib.Core.Bool.{Bool, true, false, ◌&&◌, cond, true≢false, false≢true}
 use mathlib.Core.List.{List, [], ◌∷◌, ◌++◌, flatten, append_assoc}
-use Prim.Native.Nat.{ℕ, zero, suc, ◌+◌, ◌≤◌, ◌<◌}
+use Prim.Native.Nat.{ℕ, zero, suc, ◌-◌, ◌≤◌, ◌<◌}
 use native.Mathlib.Omega.{arith}
 use lib.ListN.{length, get_or, take, drop, length-append, length-drop, get_or-append}
-use lib.Seq.{length-take-le, get_or-take, take_at, drop_at}
+use lib.Seq.{length-take-le, get_or-take, get_or-drop, take_at, drop_at}
 use lib.Dec.{leb}
-use borrow.Author.Tests.{le-leb, leb-true}
-use Rattle.answer.specs.Digits.{is_digit, three_at}
-use Rattle.answer.specs.Laid.{PieceAt}
+use borrow.Author.Tests.{le-leb, lt-leb, leb-true}
+use Rattle.std.specs.Prelude.{Option, Some, None}
+use Rattle.std.specs.Bool.{then_some}
+use Rattle.answer.specs.Digits.{is_digit, two_digits_at, three_at, two_in, three_in}
+use Rattle.answer.specs.Pieces.{found}
 use Rattle.answer.proofs.Pieces.{Sizes, all_pieces, pieces_cons, pieces_stop}
-use Rattle.records.specs.declared.Found.{Found}
-use Rattle.records.specs.Record.{kind_of, network_of, length_good, network_good, index_good, starts_record, record_in, record_as, no_record, found_in, recs, takes_as, takes, names_as, is_named}
+use Rattle.records.specs.declared.record.Record.{Record}
+use Rattle.records.specs.Record.{length_good, network_good, index_good, starts_record, record_in, record_as, found_in, recs, names_as, is_named}
+use Rattle.records.specs.Within.{record_le}
 use Rattle.records.specs.Claims.{AllRecords, a, b}
-use Rattle.answer.proofs.Parts.{and_left, and_right}
-use Rattle.answer.proofs.DigitLaws.{digit_nine}
+use Rattle.answer.proofs.Parts.{and_left, and_right, and_false, rest_part}
+use Rattle.answer.proofs.Found.{found_none}
 
 -- ---- the size of a record, by the tests that the code makes
 
@@ -63,17 +66,6 @@ starts xs = cases (leb 8 (length xs)) (length_good xs) (leb (three_at xs) (lengt
     cases true false c d e f g i h = absurd (h refl)
     cases false b c d e f g i h = absurd (h refl)
 
-pub record_le : (xs : List ℕ) → record_in xs ≤ length xs
-unfolding record_in starts_record
-record_le xs = cases (leb 8 (length xs)) (length_good xs) (leb (three_at xs) (length xs)) (network_good xs && index_good xs) refl
-  where
-    cases : (a b c d : Bool) → leb (three_at xs) (length xs) ≡ c → cond (a && (b && (c && d))) (three_at xs) 0 ≤ length xs
-    cases true true true true e = leb-true (three_at xs) (length xs) e
-    cases true true true false e = omega arith
-    cases true true false d e = omega arith
-    cases true false c d e = omega arith
-    cases false b c d e = omega arith
-
 -- a record has 8 bytes at least
 pub record_eight : (xs : List ℕ) → (record_in xs ≡ 0 → ⊥) → 8 ≤ record_in xs
 record_eight xs h = let d = starts xs h in omega (arith, d.eight, d.is)
@@ -119,7 +111,7 @@ record_alone xs h =
 pub record_sizes : Sizes record_in
 record_sizes = record { le = record_le; append = record_append; alone = record_alone }
 
--- ---- what is found
+-- ---- a record is told by two numbers and tests
 
 begins_eight : (xs : List ℕ) → starts_record xs ≡ true → 8 ≤ three_at xs
 unfolding starts_record
@@ -127,74 +119,136 @@ begins_eight xs e =
     let b = leb (three_at xs) (length xs) && (network_good xs && index_good xs) in
     length_eight xs (and_left (length_good xs) b (and_right (leb 8 (length xs)) (length_good xs && b) e))
 
+told : (d : Bool) (m n : ℕ) → (let o : Option ℕ = Some n in o) ≡ cond d (Some m) None → (d ≡ true) × (n ≡ m)
+told true m n e = (refl, cc)
+told false m n e = absurd cc
+
+untold : (d : Bool) (m : ℕ) → (let o : Option ℕ = None in o) ≡ cond d (Some m) None → d ≡ false
+untold true m e = absurd cc
+untold false m e = refl
+
+no_digits : (a b c x y z : Bool) → (a && (b && c)) ≡ false → (z && ((a && (b && (c && x))) && y)) ≡ false
+no_digits true true true x y z e = absurd (true≢false e)
+no_digits true true false x y z e = and_false z
+no_digits true false c x y z e = and_false z
+no_digits false b c x y z e = and_false z
+
+digits_told : (a b c l m f w i : Bool) → (a && (b && c)) ≡ true → w ≡ true → ((a && (b && (c && (l && m)))) && (f && (w && i))) ≡ ((l && m) && (f && i))
+digits_told true true true l m f true i e g = refl
+digits_told true true true l m f false i e g = absurd (false≢true g)
+digits_told true true false l m f w i e g = absurd (false≢true e)
+digits_told true false c l m f w i e g = absurd (false≢true e)
+digits_told false b c l m f w i e g = absurd (false≢true e)
+
+some_found : (n : ℕ) → 0 < n → (let o : Option ℕ = Some n in o) ≡ found n
+some_found zero h = absurd (omega arith)
+some_found (suc n) h = refl
+
 module _ (xs : List ℕ) where
-  found_size : (found_in xs).size ≡ record_in xs
+  none_starts : starts_record xs ≡ false → (let o : Option ℕ = None in o) ≡ found (record_in xs)
+  unfolding record_in
+  none_starts e = rw e refl
+
+  pub record_short : length xs < 8 → (let o : Option ℕ = None in o) ≡ found (record_in xs)
+  unfolding starts_record
+  record_short h = none_starts (rw (lt-leb 8 (length xs) h) refl)
+
+  pub no_length : (let o : Option ℕ = None in o) ≡ three_in xs → (let o : Option ℕ = None in o) ≡ found (record_in xs)
+  unfolding starts_record three_in
+  no_length e =
+      let d = untold (is_digit (get_or xs 0 0) && (is_digit (get_or xs 1 0) && is_digit (get_or xs 2 0))) (three_at xs) e in
+      none_starts (no_digits (is_digit (get_or xs 0 0)) (is_digit (get_or xs 1 0)) (is_digit (get_or xs 2 0)) (leb 8 (three_at xs) && leb (three_at xs) 997) (leb (three_at xs) (length xs) && (network_good xs && index_good xs)) (leb 8 (length xs)) d)
+
+  -- what `&s[4..]` hands over
+  abbrev part : List ℕ
+  part = take (length xs - 4) (drop 4 xs)
+
+  network_told : network_good xs ≡ (is_digit (get_or part 0 0) && is_digit (get_or part 1 0))
+  network_told = sym (rw (rest_part xs 4, get_or-drop 4 xs 0 0, get_or-drop 4 xs 1 0) refl)
+
+  pub no_network : (let o : Option ℕ = None in o) ≡ two_in (take (length xs - 4) (drop 4 xs)) → (let o : Option ℕ = None in o) ≡ found (record_in xs)
+  unfolding starts_record two_in
+  no_network e =
+      let d = network_told ∙ untold (is_digit (get_or part 0 0) && is_digit (get_or part 1 0)) (two_digits_at part 0) e in
+      none_starts (rw (d, and_false (leb (three_at xs) (length xs)), and_false (length_good xs)) (and_false (leb 8 (length xs))))
+
+  module _ (long : 8 ≤ length xs) (n v : ℕ) (e : (let o : Option ℕ = Some n in o) ≡ three_in xs) (w : (let o : Option ℕ = Some v in o) ≡ two_in (take (length xs - 4) (drop 4 xs))) where
+    is_length : n ≡ three_at xs
+    unfolding three_in
+    is_length = (told (is_digit (get_or xs 0 0) && (is_digit (get_or xs 1 0) && is_digit (get_or xs 2 0))) (three_at xs) n e).1
+
+    begins_by : starts_record xs ≡ ((leb 8 n && leb n 997) && (leb n (length xs) && index_good xs))
+    unfolding starts_record three_in two_in
+    begins_by =
+        let d = (told (is_digit (get_or xs 0 0) && (is_digit (get_or xs 1 0) && is_digit (get_or xs 2 0))) (three_at xs) n e).0 in
+        let g = network_told ∙ (told (is_digit (get_or part 0 0) && is_digit (get_or part 1 0)) (two_digits_at part 0) v w).0 in
+        rw (is_length, le-leb 8 (length xs) long)
+        (digits_told (is_digit (get_or xs 0 0)) (is_digit (get_or xs 1 0)) (is_digit (get_or xs 2 0)) (leb 8 (three_at xs)) (leb (three_at xs) 997) (leb (three_at xs) (length xs)) (network_good xs) (index_good xs) d g)
+
+    pub record_told : then_some ((leb 8 n && leb n 997) && (leb n (length xs) && index_good xs)) n ≡ found (record_in xs)
+    unfolding record_in
+    record_told = cases ((leb 8 n && leb n 997) && (leb n (length xs) && index_good xs)) refl
+      where
+        cases : (t : Bool) → ((leb 8 n && leb n 997) && (leb n (length xs) && index_good xs)) ≡ t → then_some t n ≡ found (cond (starts_record xs) (three_at xs) 0)
+        cases true t =
+            let h = leb-true 8 n (and_left (leb 8 n) (leb n 997) (and_left (leb 8 n && leb n 997) (leb n (length xs) && index_good xs) t)) in
+            some_found n (omega arith) ∙ ap found (is_length ∙ sym (rw (begins_by, t) refl))
+        cases false t = sym (rw (begins_by, t) refl)
+
+-- ---- a record is found just where its size is told
+
+module _ (xs : List ℕ) where
+  pub found_no : (let o : Option ℕ = None in o) ≡ found (record_in xs) → (let o : Option Record = None in o) ≡ found_in xs
   unfolding found_in record_in
-  found_size = cases (starts_record xs)
+  found_no e = cases (starts_record xs) refl e
     where
-      cases : (t : Bool) → (cond t (record_as xs) no_record).size ≡ cond t (three_at xs) 0
-      cases true = refl
-      cases false = refl
+      cases : (t : Bool) → starts_record xs ≡ t → (let o : Option ℕ = None in o) ≡ found (cond t (three_at xs) 0) → (let o : Option Record = None in o) ≡ cond t (Some (record_as xs)) None
+      cases true g f = let h = begins_eight xs g in let z = found_none (three_at xs) f in absurd (omega arith)
+      cases false g f = refl
 
-  pub found_none : record_in xs ≡ 0 → no_record ≡ found_in xs
+  pub found_yes : (n : ℕ) → (let o : Option ℕ = Some n in o) ≡ found (record_in xs) → (let o : Option Record = Some (record_as xs) in o) ≡ found_in xs
   unfolding found_in record_in
-  found_none = cases (starts_record xs) refl
+  found_yes n e = cases (starts_record xs) e
     where
-      cases : (t : Bool) → starts_record xs ≡ t → cond t (three_at xs) 0 ≡ 0 → no_record ≡ cond t (record_as xs) no_record
-      cases true e z = absurd (omega (arith, z, begins_eight xs e))
-      cases false e z = refl
+      cases : (t : Bool) → (let o : Option ℕ = Some n in o) ≡ found (cond t (three_at xs) 0) → (let o : Option Record = Some (record_as xs) in o) ≡ cond t (Some (record_as xs)) None
+      cases true f = refl
+      cases false f = absurd cc
 
-  module _ (some : record_in xs ≡ 0 → ⊥) where
-    found_as : found_in xs ≡ record_as xs
-    unfolding found_in
-    found_as = rw (starts xs some).begins refl
+-- what is found, by the record's own bytes
+module _ (xs : List ℕ) where
+  pub found_stop : (let o : Option Record = None in o) ≡ found_in xs → record_in xs ≡ 0
+  unfolding found_in record_in
+  found_stop = cases (starts_record xs)
+    where
+      cases : (t : Bool) → (let o : Option Record = None in o) ≡ cond t (Some (record_as xs)) None → cond t (three_at xs) 0 ≡ 0
+      cases true e = absurd cc
+      cases false e = refl
 
-    -- two digits write 99 at most
-    pub network_low : network_of xs ≤ 99
-    network_low =
-        let a = is_digit (get_or xs 4 0) in
-        let b = is_digit (get_or xs 5 0) in
-        let g = and_left (a && b) (index_good xs) (starts xs some).rest_good in
-        let h = digit_nine (get_or xs 4 0) (and_left a b g) in
-        let i = digit_nine (get_or xs 5 0) (and_right a b g) in
-        omega (arith, h, i)
+  module _ (r : Record) (f : (let o : Option Record = Some r in o) ≡ found_in xs) where
+    found_as : (r ≡ record_as xs) × (record_in xs ≡ three_at xs) × (8 ≤ three_at xs)
+    unfolding found_in record_in
+    found_as = cases (starts_record xs) refl f
+      where
+        cases : (t : Bool) → starts_record xs ≡ t → (let o : Option Record = Some r in o) ≡ cond t (Some (record_as xs)) None
+            → (r ≡ record_as xs) × (cond t (three_at xs) 0 ≡ three_at xs) × (8 ≤ three_at xs)
+        cases true e g = (cc, refl, begins_eight xs e)
+        cases false e g = absurd cc
+
+    pub found_size : r.size ≡ record_in xs
+    found_size = ap (λ (q : Record). q.size) found_as.0 ∙ sym found_as.1
+
+    pub found_eight : 8 ≤ r.size
+    found_eight = let e = found_as in omega (arith, found_size, e.1, e.2)
+
+    pub found_names : (w : ℕ) → names_as w r.network ≡ is_named w (take r.size xs)
+    found_names w =
+        let a = get_or-take r.size xs 4 0 (omega (arith, found_eight)) in
+        let b = get_or-take r.size xs 5 0 (omega (arith, found_eight)) in
+        ap (λ (q : Record). names_as w q.network) found_as.0 ∙ sym (rw (a, b) refl)
 
 -- past the end
-pub found_past : (s : List ℕ) (at : ℕ) → length s ≤ at → no_record ≡ found_in (drop at s)
-found_past s at h = found_none (drop at s) (let e = record_le (drop at s) in omega (arith, e, length-drop at s))
-
--- at a place
-module _ (s : List ℕ) (at : ℕ) (rec : Found) (f : rec ≡ found_in (drop at s)) where
-  pub size_is : rec.size ≡ record_in (drop at s)
-  size_is = ap (λ (r : Found). r.size) f ∙ found_size (drop at s)
-
-  pub found_at : at ≤ length s → PieceAt record_in s at rec.size
-  found_at h = record { is = size_is; within = omega (arith, simp length-drop at (record_le (drop at s)), size_is) }
-
-  module _ (some : rec.size ≡ 0 → ⊥) where
-    stands : record_in (drop at s) ≡ 0 → ⊥
-    stands z = some (size_is ∙ z)
-
-    -- its kind and its network stand in its own bytes
-    own : (i : ℕ) → i < 8 → get_or (take rec.size (drop at s)) i 0 ≡ get_or (drop at s) i 0
-    own i h = get_or-take rec.size (drop at s) i 0 (omega (arith, size_is, record_eight (drop at s) stands))
-
-    kind_is : rec.kind ≡ kind_of (take rec.size (drop at s))
-    kind_is = ap (λ (r : Found). r.kind) (f ∙ found_as (drop at s) stands) ∙ sym (own 3 (omega arith))
-
-    network_is : rec.network ≡ network_of (take rec.size (drop at s))
-    network_is = ap (λ (r : Found). r.network) (f ∙ found_as (drop at s) stands) ∙ sym (rw (own 4 (omega arith), own 5 (omega arith)) refl)
-
-    pub found_takes : (w : ℕ) → takes_as w rec.kind rec.network ≡ takes w (take rec.size (drop at s))
-    unfolding takes
-    found_takes w = rw (kind_is, network_is) refl
-
-    pub found_names : (w : ℕ) → names_as w rec.network ≡ is_named w (take rec.size (drop at s))
-    found_names w = ap (names_as w) network_is
-
--- what is found ends within the bytes
-pub found_ends : (s : List ℕ) (at : ℕ) → at ≤ length s → (found_in (drop at s)).size + at ≤ length s
-found_ends s at h = omega (arith, (found_at s at (found_in (drop at s)) refl h).within)
+pub found_past : (s : List ℕ) (at : ℕ) → length s ≤ at → (let o : Option Record = None in o) ≡ found_in (drop at s)
+found_past s at h = found_no (drop at s) (record_short (drop at s) (omega (arith, length-drop at s)))
 
 -- ---- a zero byte starts no record
 

@@ -14,7 +14,8 @@ use Rattle.records.specs.Record.{record_in, recs, takes}
 use Rattle.records.specs.Store.{zeros, store_of, fits, all_zero, sound_store}
 use Rattle.records.specs.Claims.{AllRecords, SoundAs, a}
 use Rattle.answer.proofs.Parts.{and_left, and_right}
-use Rattle.records.proofs.Records.{record_le, record_sizes, zero_none, recs_then, recs_all}
+use Rattle.records.proofs.Records.{record_sizes, zero_none, recs_then, recs_all}
+use Rattle.records.specs.Within.{record_le}
 
 -- ---- zeros
 

@@ -1,8 +1,8 @@
 -- The terms of the theorems on records and stores, and small cases of them.
-use Rattle.std.specs.Prelude.{◌≡◌, true, false, ℕ, length}
+use Rattle.std.specs.Prelude.{◌≡◌, true, false, ℕ, length, Some, None}
 use mathlib.Core.List.{List, [], ◌∷◌, ◌++◌, flatten}
 use Rattle.answer.specs.Claims.{AllPieces}
-use Rattle.records.specs.Record.{record_in, no_record, found_in, takes, good_block}
+use Rattle.records.specs.Record.{record_in, found_in, takes, good_block}
 use Rattle.answer.specs.Pieces.{every}
 use Rattle.records.specs.Store.{zeros, store_of, fits, sound_store}
 
@@ -38,9 +38,9 @@ pub record RecordSamples : Type 0 where
   pub too_short : record_in (0x30 ∷ 0x30 ∷ 0x37 ∷ 0x31 ∷ 0x30 ∷ 0x31 ∷ 0x41 ∷ 0x41 ∷ []) ≡ 0
   pub bad_index : record_in (small 0x31 0x31 0x1f) ≡ 0
   pub cut_off : record_in (0x30 ∷ 0x30 ∷ 0x39 ∷ 0x31 ∷ 0x30 ∷ 0x31 ∷ 0x41 ∷ 0x41 ∷ []) ≡ 0
-  -- a record of 02 is found with its kind and its network; where none stands all is 0
-  pub found_whole : found_in (b ++ (0x30 ∷ [])) ≡ record { size = 8; kind = 0x32; network = 2 }
-  pub found_none : found_in (0x30 ∷ []) ≡ no_record
+  -- a record of 02 is found with its size, its kind and its network
+  pub found_whole : found_in (b ++ (0x30 ∷ [])) ≡ Some (record { size = 8; kind = 0x32; network = 2 })
+  pub found_none : found_in (0x30 ∷ []) ≡ None
   -- a good block of two, one that tells three, and one with a byte too many
   pub two_good : good_block (0x30 ∷ 0x32 ∷ (a ++ b)) ≡ true
   pub three_told : good_block (0x30 ∷ 0x33 ∷ (a ++ b)) ≡ false

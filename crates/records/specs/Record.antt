@@ -1,8 +1,8 @@
 -- A table record, and the records that some bytes are (scope paper, section Commands).
-use Rattle.std.specs.Prelude.{ℕ, Bool, not, ◌&&◌, ◌||◌, cond, List, length, get_or, drop, leb, eqb}
+use Rattle.std.specs.Prelude.{ℕ, Bool, not, ◌&&◌, ◌||◌, cond, List, length, get_or, drop, leb, eqb, Option, Some, None}
 use Rattle.answer.specs.Digits.{is_digit, is_text, two_digits_at, three_at}
 use Rattle.answer.specs.Pieces.{pieces, whole}
-use Rattle.records.specs.declared.Found.{Found}
+use Rattle.records.specs.declared.record.Record.{Record}
 
 -- a record says its own length in its first three digits, which count too
 abbrev pub length_in : List ℕ → ℕ
@@ -35,16 +35,12 @@ unfoldable pub record_in : List ℕ → ℕ
 record_in xs = cond (starts_record xs) (length_in xs) 0
 
 -- what a record's own bytes tell of it
-abbrev pub record_as : List ℕ → Found
+abbrev pub record_as : List ℕ → Record
 record_as r = record { size = length_in r; kind = kind_of r; network = network_of r }
 
--- what is found where no record stands
-abbrev pub no_record : Found
-no_record = record { size = 0; kind = 0; network = 0 }
-
 -- THE RECORD that xs starts with
-unfoldable pub found_in : List ℕ → Found
-found_in xs = cond (starts_record xs) (record_as xs) no_record
+unfoldable pub found_in : List ℕ → Option Record
+found_in xs = cond (starts_record xs) (Some (record_as xs)) None
 
 -- the records of any bytes: those that stand one after another from the start, up to the first place where none stands
 abbrev pub recs : List ℕ → List (List ℕ)

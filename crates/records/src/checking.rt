@@ -2,50 +2,55 @@
 ghost use Rattle.std.specs.Prelude.{◌≡◌, drop};
 ghost use Rattle.records.specs.Record.{good_block};
 ghost use Rattle.records.specs.Store.{all_zero, sound_store};
-ghost use Rattle.records.specs.Steps.{records_good};
+ghost use Rattle.records.specs.Steps.{passes, records_good};
 
-use crate::record::{is_taken, record_at, two_digits};
-use answer::digits::is_digit;
+use crate::Record;
+use answer::digits::two_digits;
+use answer::walk::pieces_of;
 
 // Whether the bytes from `used` on are all zero. They are joined with no test between, so that many are taken at a time.
-#[tactic(auto, using(crate::proofs::Checks::zero_more, crate::proofs::Checks::zero_done))]
+#[tactic(auto, using(crate::proofs::Checks::zero_more, crate::proofs::Checks::zero_done, crate::proofs::Checks::zero_past, answer::proofs::Parts::rest_part))]
 pub fn rest_is_zero(store: &[u8], used: usize) -> bool
     ensures { result ≡ all_zero (drop used store.now) }
 {
-    let mut joined: u8 = 0;
-    let mut i = used;
-    while i < store.len() {
-        joined = joined | store[i];
-        i += 1;
+    let Some(rest) = store.get(used..) else {
+        return true;
+    };
+    let mut joined = 0u8;
+    for &b in rest {
+        joined |= b;
     }
     joined == 0
 }
 
-// Whether the bytes are whole records, as many as told, and, unless any will do, records that a load for `network` takes.
-#[tactic(auto, using(crate::proofs::Records::found_ends, crate::proofs::Checks::good_end, crate::proofs::Checks::good_stop, crate::proofs::Checks::good_more, crate::proofs::Checks::good_not))]
-fn records_good(bytes: &[u8], records: usize, network: u8, any: bool) -> bool
-    ensures { result ≡ records_good any network records 0 bytes.now }
+// Whether a load takes the record; where no network is given, any record will do.
+#[tactic(auto, unfolding(crate::specs::Steps::passes, crate::specs::Record::takes))]
+fn passes(bytes: &[u8], network: Option<u8>) -> bool
+    ensures { result ≡ passes network bytes.now }
 {
-    let mut n = 0;
-    let mut at = 0;
-    while at < bytes.len() {
-        let rec = record_at(bytes, at);
-        let size = rec.size;
-        if size == 0 {
+    network.is_none_or(|network| Record::of(bytes).is_taken(network))
+}
+
+// Whether the bytes are whole records, as many as told, and, where a load is for a network, records that it takes. One pass, since
+// a store is checked at each call.
+#[tactic(auto, using(crate::proofs::Checks::good_end))]
+fn records_good(bytes: &[u8], records: usize, network: Option<u8>) -> bool
+    ensures { result ≡ records_good network records bytes.now }
+{
+    let mut seen = 0;
+    let mut count = 0;
+    for piece in pieces_of::<Record>(bytes) {
+        if !passes(piece, network) {
             return false;
         }
-        let end = at + size;
-        if !(any | is_taken(rec, network)) {
-            return false;
-        }
-        n += 1;
-        at = end;
+        seen += piece.len();
+        count += 1;
     }
-    n == records
+    (seen == bytes.len()) & (count == records)
 }
 
 // Whether `store` is sound by its used bytes and the number of its records; `network` is that of the open load, or 0 for the live store.
-#[tactic(auto, unfolding(crate::specs::Store::sound_store, crate::specs::Steps::records_good))]
+#[tactic(auto, unfolding(crate::specs::Store::sound_store, crate::specs::Steps::records_good, crate::specs::Steps::passes))]
 pub fn check_store(store: &[u8], used: usize, records: usize, network: u8) -> bool
     ensures { result ≡ sound_store network used records store.now }
 {
@@ -55,23 +60,22 @@ pub fn check_store(store: &[u8], used: usize, records: usize, network: u8) -> bo
     if 512 < records {
         return false;
     }
-    if !records_good(&store[0..used], records, network, false) {
+    if !records_good(&store[..used], records, Some(network)) {
         return false;
     }
     rest_is_zero(store, used)
 }
 
 // Whether `block`, a count and then records, is good as a whole.
-#[tactic(auto, unfolding(crate::specs::Record::good_block, crate::specs::Steps::records_good))]
+#[tactic(auto, using(crate::proofs::Checks::block_not, crate::proofs::Checks::block_is), unfolding(crate::specs::Record::good_block))]
 pub fn block_good(block: &[u8]) -> bool
     ensures { result ≡ good_block block.now }
 {
     if block.len() < 2 {
         return false;
     }
-    let count = two_digits(block, 0);
-    if !(is_digit(block[0]) & (is_digit(block[1]) & (1 <= count))) {
+    let Some(count) = two_digits(block) else {
         return false;
-    }
-    records_good(&block[2..], count, 0, true)
+    };
+    (1 <= count) & records_good(&block[2..], count as usize, None)
 }

@@ -1,13 +1,15 @@
--- `records::checking::records_good` meets its contract: with `n` records passed, what is left is good just if all is.
-use Prim.Native.Nat.{◌≤◌, ◌-◌}
-use mathlib.Core.Path.{◌≡◌}
-use lib.ListN.{length, drop}
-use Rattle.records.specs.Steps.{records_good}
+-- `records::checking::records_good` meets its contract: what was passed, and the records that are left, are all.
+use Rattle.std.proofs.Common.{◌≡◌, ◌+◌, length}
+use mathlib.Core.List.{flatten}
+use Rattle.answer.specs.Pieces.{every}
+use Rattle.records.specs.Record.{recs}
+use Rattle.records.specs.Steps.{passes}
 use Rattle.records.proofs.checking.records_good.Given as goal
 
-abbrev pub invariant-loop-at : goal.invariant-loop-at
-invariant-loop-at l =
-    (l.at ≤ length l.bytes) × (l.n ≤ l.at) × (records_good l.any l.network l.records 0 l.bytes ≡ records_good l.any l.network l.records l.n (drop l.at l.bytes))
-
-abbrev pub decreases-loop-at : goal.decreases-loop-at
-decreases-loop-at l = length l.bytes - l.at
+abbrev pub invariant-loop-piece : goal.invariant-loop-piece
+invariant-loop-piece l =
+    (goal.iterator-loop-piece).can_next l.piece-iterator
+    × (goal.iterator-loop-piece).is_finite l.piece-iterator
+    × (l.seen + length (flatten (recs l.piece-iterator.rest.now)) ≡ length (flatten (recs l.bytes)))
+    × (l.count + length (recs l.piece-iterator.rest.now) ≡ length (recs l.bytes))
+    × (every (passes l.network) (recs l.bytes) ≡ every (passes l.network) (recs l.piece-iterator.rest.now))

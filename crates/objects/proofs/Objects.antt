@@ -4,81 +4,94 @@ use mathlib.Core.Bool.{Bool, true, false, cond}
 use mathlib.Core.List.{List, ◌++◌}
 use Prim.Native.Nat.{ℕ, ◌+◌, ◌-◌, ◌≤◌}
 use native.Mathlib.Omega.{arith}
-use lib.ListN.{length, take, drop, length-append, length-take}
+use lib.ListN.{length, take, drop, length-append, length-take, length-drop}
 use lib.Seq.{drop-append-le, take-take}
 use lib.Dec.{leb, eqb}
-use borrow.Author.Tests.{ne_eqb, le-leb, leb-true, eqb-true, eqb-false}
-use Rattle.objects.specs.declared.Form.{Form}
+use borrow.Author.Tests.{ne_eqb, le-leb, leb-true, eqb-false}
+use Rattle.std.specs.Prelude.{Option, Some, None, Ok, Err}
+use Rattle.answer.specs.declared.refusal.Refusal.{Refusal}
+use Rattle.answer.specs.declared.refusal.Refusal.TheVariants.{NoTag, CutValue}
+use Rattle.objects.specs.declared.forms.Form.{Form}
 use Rattle.objects.specs.Tag.{tag_size}
-use Rattle.objects.specs.LengthForm.{form_of, form_at}
-use Rattle.objects.specs.Object.{Object, object_of, header_size, value_size, object_refusal, object_size, read_of, object_in}
+use Rattle.objects.specs.LengthForm.{form_of, form_at, size_in, value_in}
+use Rattle.objects.specs.Object.{Object, object_of, header_size, value_size, form_refusal, object_refusal, whole_in, object_size, read_of, object_in}
 use Rattle.answer.proofs.Parts.{drop_take}
-use Rattle.objects.proofs.TagSizes.{tag_le, tag_append, tag_take}
+use Rattle.objects.proofs.TagSizes.{tag_append, tag_take}
+use Rattle.objects.specs.Within.{tag_within}
 use Rattle.objects.proofs.LengthForms.{form_append, form_take}
-
--- ---- by the tests of the code
-
-module _ (xs : List ℕ) where
-  module _ (h : tag_size xs ≡ 0 → ⊥) (k : (form_at (drop (tag_size xs) xs)).size ≡ 0 → ⊥) where
-    pub refusal_0 : header_size xs + value_size xs ≤ length xs → object_refusal xs ≡ 0
-    unfolding object_refusal
-    refusal_0 l = simp (ne_eqb (tag_size xs) 0 h, ne_eqb (form_at (drop (tag_size xs) xs)).size 0 k, le-leb (header_size xs + value_size xs) (length xs) l)
-
-  pub read_good : object_refusal xs ≡ 0 → read_of xs ≡ record { refusal = 0; tag = tag_size xs; header = header_size xs; whole = header_size xs + value_size xs }
-  unfolding read_of object_size
-  read_good e = simp e
 
 -- ---- what an object has that nothing is wrong with
 
 pub record Sound (xs : List ℕ) : Type 0 where
   pub tag : tag_size xs ≡ 0 → ⊥
-  pub form : (form_at (drop (tag_size xs) xs)).size ≡ 0 → ⊥
+  pub form : form_at (drop (tag_size xs) xs) ≡ None → ⊥
   pub fits : header_size xs + value_size xs ≤ length xs
 
-pub sound_parts : (xs : List ℕ) → object_refusal xs ≡ 0 → Sound xs
+pub sound_parts : (xs : List ℕ) → object_refusal xs ≡ None → Sound xs
 unfolding object_refusal
-sound_parts xs = cases (eqb (tag_size xs) 0) (eqb (form_at (drop (tag_size xs) xs)).size 0) (leb (header_size xs + value_size xs) (length xs)) refl refl refl
+sound_parts xs = cases (eqb (tag_size xs) 0) (form_at (drop (tag_size xs) xs)) refl refl
   where
-    cases : (s t u : Bool) → eqb (tag_size xs) 0 ≡ s → eqb (form_at (drop (tag_size xs) xs)).size 0 ≡ t → leb (header_size xs + value_size xs) (length xs) ≡ u
-        → ◌≡◌ {A = ℕ} (cond s 30 (cond t 31 (cond u 0 32))) 0 → Sound xs
-    cases true t u e f g z = absurd (omega arith)
-    cases false true u e f g z = absurd (omega arith)
-    cases false false false e f g z = absurd (omega arith)
-    cases false false true e f g z =
-        record { tag = eqb-false (tag_size xs) 0 e; form = eqb-false (form_at (drop (tag_size xs) xs)).size 0 f; fits = leb-true (header_size xs + value_size xs) (length xs) g }
+    behind : (f : Form) (u : Bool) → eqb (tag_size xs) 0 ≡ false → form_at (drop (tag_size xs) xs) ≡ Some f → leb (f.size + f.value) (length (drop (tag_size xs) xs)) ≡ u
+        → ◌≡◌ {A = Option Refusal} (cond u None (Some CutValue)) None → Sound xs
+    behind f false e i g z = absurd cc
+    behind f true e i g z =
+        let s = ap size_in i in
+        let v = ap value_in i in
+        let t = tag_within xs in
+        let l = leb-true (f.size + f.value) (length (drop (tag_size xs) xs)) g in
+        record { tag = eqb-false (tag_size xs) 0 e; form = λ n. absurd (let no = sym i ∙ n in cc); fits = omega (arith, simp length-drop at l) }
 
-pub sound_refusal : (xs : List ℕ) → Sound xs → object_refusal xs ≡ 0
-sound_refusal xs g = refusal_0 xs g.tag g.form g.fits
+    cases : (b : Bool) (o : Option Form) → eqb (tag_size xs) 0 ≡ b → form_at (drop (tag_size xs) xs) ≡ o
+        → ◌≡◌ {A = Option Refusal} (cond b (Some NoTag) (form_refusal (length (drop (tag_size xs) xs)) o)) None → Sound xs
+    cases true o e i z = absurd cc
+    cases false None e i z = absurd cc
+    cases false (Some f) e i z = behind f (leb (f.size + f.value) (length (drop (tag_size xs) xs))) e i refl z
 
-pub size_good : (xs : List ℕ) → object_refusal xs ≡ 0 → object_size xs ≡ header_size xs + value_size xs
-unfolding object_size
-size_good xs e = simp e
-
-pub size_bad : (xs : List ℕ) → (object_refusal xs ≡ 0 → ⊥) → object_size xs ≡ 0
-unfolding object_size
-size_bad xs h = simp (ne_eqb (object_refusal xs) 0 h)
-
-pub size_some : (xs : List ℕ) → object_refusal xs ≡ 0 → object_size xs ≡ 0 → ⊥
-size_some xs e z =
-    let g = sound_parts xs e in
-    let n = size_good xs e in
-    g.tag (omega arith)
-
-pub size_refusal : (xs : List ℕ) → (object_size xs ≡ 0 → ⊥) → object_refusal xs ≡ 0
-unfolding object_size
-size_refusal xs = cases (eqb (object_refusal xs) 0) refl
+pub sound_refusal : (xs : List ℕ) → Sound xs → object_refusal xs ≡ None
+unfolding object_refusal
+sound_refusal xs g = cases (form_at (drop (tag_size xs) xs)) refl
   where
-    cases : (b : Bool) → eqb (object_refusal xs) 0 ≡ b → (cond b (header_size xs + value_size xs) 0 ≡ 0 → ⊥) → object_refusal xs ≡ 0
-    cases true e h = eqb-true (object_refusal xs) 0 e
-    cases false e h = absurd (h refl)
+    cases : (o : Option Form) → form_at (drop (tag_size xs) xs) ≡ o
+        → ◌≡◌ {A = Option Refusal} (cond (eqb (tag_size xs) 0) (Some NoTag) (form_refusal (length (drop (tag_size xs) xs)) o)) None
+    cases None i = absurd (g.form i)
+    cases (Some f) i =
+        let s = ap size_in i in
+        let v = ap value_in i in
+        let t = g.fits in
+        let l : f.size + f.value ≤ length (drop (tag_size xs) xs) = simp length-drop (omega arith) in
+        simp (ne_eqb (tag_size xs) 0 g.tag, le-leb (f.size + f.value) (length (drop (tag_size xs) xs)) l)
 
-pub size_le : (xs : List ℕ) → object_size xs ≤ length xs
-unfolding object_size
-size_le xs = cases (eqb (object_refusal xs) 0) refl
-  where
-    cases : (b : Bool) → eqb (object_refusal xs) 0 ≡ b → cond b (header_size xs + value_size xs) 0 ≤ length xs
-    cases true e = (sound_parts xs (eqb-true (object_refusal xs) 0 e)).fits
-    cases false e = omega arith
+-- ---- what is read
+
+module _ (xs : List ℕ) where
+  pub read_good : object_refusal xs ≡ None → read_of xs ≡ Ok (record { tag = tag_size xs; header = header_size xs; whole = header_size xs + value_size xs })
+  unfolding read_of
+  read_good e = simp e
+
+  pub read_bad : (e : Refusal) → object_refusal xs ≡ Some e → read_of xs ≡ Err e
+  unfolding read_of
+  read_bad e h = simp h
+
+  pub size_good : object_refusal xs ≡ None → object_size xs ≡ header_size xs + value_size xs
+  unfolding object_size
+  size_good e = ap whole_in (read_good e)
+
+  pub size_bad : (e : Refusal) → object_refusal xs ≡ Some e → object_size xs ≡ 0
+  unfolding object_size
+  size_bad e h = ap whole_in (read_bad e h)
+
+  pub size_some : object_refusal xs ≡ None → object_size xs ≡ 0 → ⊥
+  size_some e z =
+      let g = sound_parts xs e in
+      let n = size_good e in
+      g.tag (omega arith)
+
+  pub size_refusal : (object_size xs ≡ 0 → ⊥) → object_refusal xs ≡ None
+  size_refusal h = cases (object_refusal xs) refl
+    where
+      cases : (o : Option Refusal) → object_refusal xs ≡ o → object_refusal xs ≡ None
+      cases None e = e
+      cases (Some r) e = absurd (h (size_bad r e))
 
 -- ---- an object in its place
 
@@ -98,21 +111,21 @@ alike_good : (xs ys : List ℕ) → Sound xs → Alike xs ys → Sound ys
 alike_good xs ys g a =
     let t = a.tag in
     let f = alike_form xs ys a in
-    let s : (form_at (drop (tag_size ys) ys)).size ≡ (form_at (drop (tag_size xs) xs)).size = ap (λ (r : Form). r.size) f in
-    let v : value_size ys ≡ value_size xs = ap (λ (r : Form). r.value) f in
+    let s = ap size_in f in
+    let v = ap value_in f in
     let l = a.long in
-    record { tag = λ z. g.tag (sym t ∙ z); form = λ z. g.form (sym s ∙ z); fits = omega arith }
+    record { tag = λ z. g.tag (sym t ∙ z); form = λ z. g.form (sym f ∙ z); fits = omega arith }
 
 alike_size : (xs ys : List ℕ) → Sound xs → Alike xs ys → object_size ys ≡ object_size xs
 alike_size xs ys g a =
     let f = alike_form xs ys a in
-    let v : value_size ys ≡ value_size xs = ap (λ (r : Form). r.value) f in
+    let v : value_size ys ≡ value_size xs = ap value_in f in
     let h = alike_header xs ys a in
     size_good ys (sound_refusal ys (alike_good xs ys g a)) ∙ rw (h, v) (sym (size_good xs (sound_refusal xs g)))
 
 alike_append : (xs ys : List ℕ) → Sound xs → Alike xs (xs ++ ys)
 alike_append xs ys g =
-    let l = tag_le xs in
+    let l = tag_within xs in
     let fits = g.fits in
     record {
       tag = tag_append xs ys g.tag;
@@ -128,7 +141,7 @@ size_append xs ys h = let g = sound_parts xs (size_refusal xs h) in alike_size x
 alike_take : (xs : List ℕ) → Sound xs → Alike xs (take (header_size xs + value_size xs) xs)
 alike_take xs g =
     let t = tag_size xs in
-    let f = (form_at (drop t xs)).size in
+    let f = size_in (form_at (drop t xs)) in
     let v = value_size xs in
     let n = header_size xs + value_size xs in
     let fits = g.fits in
@@ -146,7 +159,7 @@ parts : (xs : List ℕ) (t h : ℕ) → t ≡ tag_size xs → h ≡ header_size 
 unfolding object_in
 parts xs t h p q = object (ap (λ (i : ℕ). take i xs) (sym p)) (ap (λ (i : ℕ). drop i xs) (sym q))
 
-module _ (xs : List ℕ) (e : object_refusal xs ≡ 0) where
+module _ (xs : List ℕ) (e : object_refusal xs ≡ None) where
   g : Sound xs
   g = sound_parts xs e
 

@@ -7,8 +7,9 @@ use native.Mathlib.Omega.{arith}
 use lib.ListN.{get_or, take, drop}
 use lib.Dec.{ltb, eqb}
 use borrow.Author.Tests.{ltb-true, ltb-false, eqb-true}
-use Rattle.objects.specs.declared.Form.{Form}
-use Rattle.objects.specs.LengthForm.{form, no_form, form_of, form_at, after81, after82}
+use Rattle.std.specs.Prelude.{Option, None}
+use Rattle.objects.specs.declared.forms.Form.{Form}
+use Rattle.objects.specs.LengthForm.{form, form_of, form_at, after81, after82, size_in, value_in}
 use Rattle.objects.specs.Claims.{AllBytes}
 use Rattle.objects.proofs.LengthForms.{form_one, form_two, form_three}
 
@@ -39,15 +40,15 @@ low : (b c : ℕ) → c < 256 → (b * 256 + c) % 256 ≡ c
 low b c h = omega arith
 
 -- a form that reads is the form of its length, which is at most 65,535
-abbrev pub Only : List ℕ → Form → Type 0
-Only xs f = (f.size ≡ 0 → ⊥) → (take f.size xs ≡ form_of f.value) × (f.value ≤ 65535)
+abbrev pub Only : List ℕ → Option Form → Type 0
+Only xs f = (f ≡ None → ⊥) → (take (size_in f) xs ≡ form_of (value_in f)) × (value_in f ≤ 65535)
 
 only_81 : (ys : List ℕ) → AllBytes ys → Only (0x81 ∷ ys) (after81 ys)
 unfolding after81
 only_81 [] h n = absurd (n refl)
 only_81 (b ∷ ys) h n = cases (ltb b 0x80) refl n
   where
-    cases : (v : Bool) → ltb b 0x80 ≡ v → Only (0x81 ∷ b ∷ ys) (cond v no_form (form 2 b))
+    cases : (v : Bool) → ltb b 0x80 ≡ v → Only (0x81 ∷ b ∷ ys) (cond v None (form 2 b))
     cases true e n = absurd (n refl)
     cases false e n = let l = h.0 in (sym (form_two b (ltb-false b 0x80 e) l), omega arith)
 
@@ -57,7 +58,7 @@ only_82 [] h n = absurd (n refl)
 only_82 (b ∷ []) h n = absurd (n refl)
 only_82 (b ∷ c ∷ ys) h n = cases (ltb (b * 256 + c) 0x100) refl n
   where
-    cases : (v : Bool) → ltb (b * 256 + c) 0x100 ≡ v → Only (0x82 ∷ b ∷ c ∷ ys) (cond v no_form (form 3 (b * 256 + c)))
+    cases : (v : Bool) → ltb (b * 256 + c) 0x100 ≡ v → Only (0x82 ∷ b ∷ c ∷ ys) (cond v None (form 3 (b * 256 + c)))
     cases true e n = absurd (n refl)
     cases false e n =
         let l = ltb-false (b * 256 + c) 0x100 e in
@@ -70,14 +71,14 @@ unfolding form_at
 form_only [] h n = absurd (n refl)
 form_only (a ∷ ys) h n = short (ltb a 0x80) refl n
   where
-    last : (u : Bool) → eqb a 0x82 ≡ u → Only (a ∷ ys) (cond u (after82 ys) no_form)
-    last true e n = let q = eqb-true a 0x82 e in (ap (λ (x : ℕ). take (after82 ys).size (x ∷ ys)) q ∙ (only_82 ys h.1 n).0, (only_82 ys h.1 n).1)
+    last : (u : Bool) → eqb a 0x82 ≡ u → Only (a ∷ ys) (cond u (after82 ys) None)
+    last true e n = let q = eqb-true a 0x82 e in (ap (λ (x : ℕ). take (size_in (after82 ys)) (x ∷ ys)) q ∙ (only_82 ys h.1 n).0, (only_82 ys h.1 n).1)
     last false e n = absurd (n refl)
 
-    long : (t : Bool) → eqb a 0x81 ≡ t → Only (a ∷ ys) (cond t (after81 ys) (cond (eqb a 0x82) (after82 ys) no_form))
-    long true e n = let q = eqb-true a 0x81 e in (ap (λ (x : ℕ). take (after81 ys).size (x ∷ ys)) q ∙ (only_81 ys h.1 n).0, (only_81 ys h.1 n).1)
+    long : (t : Bool) → eqb a 0x81 ≡ t → Only (a ∷ ys) (cond t (after81 ys) (cond (eqb a 0x82) (after82 ys) None))
+    long true e n = let q = eqb-true a 0x81 e in (ap (λ (x : ℕ). take (size_in (after81 ys)) (x ∷ ys)) q ∙ (only_81 ys h.1 n).0, (only_81 ys h.1 n).1)
     long false e n = last (eqb a 0x82) refl n
 
-    short : (s : Bool) → ltb a 0x80 ≡ s → Only (a ∷ ys) (cond s (form 1 a) (cond (eqb a 0x81) (after81 ys) (cond (eqb a 0x82) (after82 ys) no_form)))
+    short : (s : Bool) → ltb a 0x80 ≡ s → Only (a ∷ ys) (cond s (form 1 a) (cond (eqb a 0x81) (after81 ys) (cond (eqb a 0x82) (after82 ys) None)))
     short true e n = let l = ltb-true a 0x80 e in (sym (form_one a l), omega arith)
     short false e n = long (eqb a 0x81) refl n

@@ -1,69 +1,58 @@
 -- What the promises of the calls fix: one result each, and what is written and then read, or read and then written.
 use mathlib.Core.Path.{◌≡◌, refl, sym, ap, ◌∙◌, subst}
-use mathlib.Core.Bool.{Bool, true, false, cond}
 use mathlib.Core.List.{List, ◌++◌, append_assoc, append-nil}
 use Prim.Native.Nat.{ℕ, ◌+◌, ◌-◌, ◌≤◌}
 use native.Mathlib.Omega.{arith}
 use lib.ListN.{length, take, drop, length-append}
 use lib.Seq.{length-take-le, take_at, drop_at}
-use lib.Dec.{leb}
 use borrow.Author.Tests.{le-ltb}
-use Rattle.answer.specs.declared.Answer.{Answer}
-use Rattle.answer.specs.Answers.{Result, Gives, answer_of, over}
-use Rattle.answer.specs.Answers.Result.{Good, Refused}
-use Rattle.answer.proofs.Promises.{gives_one, Numbered, success}
+use Rattle.std.specs.Prelude.{Option, None, Result, Ok}
+use Rattle.answer.specs.declared.refusal.Refusal.{Refusal}
+use Rattle.answer.specs.Answers.{Output, Gives, answer_of, over}
+use Rattle.answer.specs.Pieces.{found}
+use Rattle.answer.proofs.Promises.{gives_one, success}
 use Rattle.objects.specs.declared.ObjectRead.{ObjectRead}
-use Rattle.objects.specs.Tag.{tag_size, is_tag}
+use Rattle.objects.specs.Tag.{tag_size}
 use Rattle.objects.specs.LengthForm.{form_of}
 use Rattle.objects.specs.Object.{object_of, write_object, header_size, value_size, object_refusal, object_size, read_of}
 use Rattle.objects.specs.Claims.{AllBytes, Fit}
-use Rattle.objects.proofs.Objects.{read_good, size_good, size_le}
-use Rattle.objects.proofs.Reading.{read_refusal}
+use Rattle.objects.specs.Within.{object_within}
+use Rattle.objects.proofs.Objects.{size_good}
+use Rattle.objects.proofs.Reading.{read_right, read_is}
 use Rattle.objects.proofs.RoundTrip.{write_gives, fit_writes, written_read, read_written, read_fit}
 
 -- ---- ONE RESULT: two results of a call that its promise allows for one entry are one
 
-pub tag_size_one : (p : List ℕ) (r s : ℕ) → r ≡ tag_size p → s ≡ tag_size p → r ≡ s
+pub tag_size_one : (p : List ℕ) (r s : Option ℕ) → r ≡ found (tag_size p) → s ≡ found (tag_size p) → r ≡ s
 tag_size_one p r s e f = e ∙ sym f
 
-pub read_object_one : (input : List ℕ) (r s : ObjectRead) → r ≡ read_of input → s ≡ read_of input → r ≡ s
+pub read_object_one : (input : List ℕ) (r s : Result ObjectRead Refusal) → r ≡ read_of input → s ≡ read_of input → r ≡ s
 read_object_one input r s p q = p ∙ sym q
 
-pub write_object_one : (tag value out : List ℕ) (r s : Answer) (o o' : List ℕ) → Gives (write_object tag value) out r o → Gives (write_object tag value) out s o' → (r ≡ s) × (o ≡ o')
+pub write_object_one : (tag value out : List ℕ) (r s : Result ℕ Refusal) (o o' : List ℕ) → Gives (write_object tag value) out r o → Gives (write_object tag value) out s o' → (r ≡ s) × (o ≡ o')
 write_object_one tag value = gives_one (write_object tag value)
-
--- ---- the refusal number 0 is a success
-
-pub write_numbered : (tag value : List ℕ) → Numbered (write_object tag value)
-unfolding write_object
-write_numbered tag value = cases (is_tag tag) (leb (length value) 65535)
-  where
-    cases : (a b : Bool) → Numbered (cond a (cond b (Good (object_of tag value)) (Refused 33)) (Refused 30))
-    cases true true = tt
-    cases true false = λ e. omega arith
-    cases false b = λ e. omega arith
 
 -- ---- WRITE, THEN READ: the lengths that are read tell the tag and the value apart
 
-module _ (tag value out : List ℕ) (r : Answer) (out' : List ℕ) (w : Gives (write_object tag value) out r out') (z : r.refusal ≡ 0) where
-  given : (take r.length out' ≡ object_of tag value) × (r.length ≡ length (object_of tag value)) × Fit tag value
+module _ (tag value out : List ℕ) (n : ℕ) (out' : List ℕ) (w : Gives (write_object tag value) out (Ok n) out') where
+  given : (take n out' ≡ object_of tag value) × (n ≡ length (object_of tag value)) × Fit tag value
   given =
-      let d = success (write_object tag value) out r out' (write_numbered tag value) w z in
+      let d = success (write_object tag value) out n out' w in
       let g = write_gives tag value d.given d.is in
       (d.bytes ∙ g.1, d.long ∙ ap length g.1, g.0)
 
-  pub write_then_read : (s : ObjectRead) → s ≡ read_of (take r.length out')
-      → s ≡ record { refusal = 0; tag = length tag; header = length tag + length (form_of (length value)); whole = r.length }
+  pub write_then_read : (s : Result ObjectRead Refusal) → s ≡ read_of (take n out')
+      → s ≡ Ok (record { tag = length tag; header = length tag + length (form_of (length value)); whole = n })
   write_then_read s e =
       let g = given in
       e ∙ ap read_of (g.0 ∙ sym (append-nil (object_of tag value))) ∙ written_read tag value _ g.2
-      ∙ ap (λ (n : ℕ). record { refusal = 0; tag = length tag; header = length tag + length (form_of (length value)); whole = n }) (sym g.1)
+      ∙ ap (λ (k : ℕ). Ok (record { tag = length tag; header = length tag + length (form_of (length value)); whole = k })) (sym g.1)
 
-  pub tag_written : take (length tag) (take r.length out') ≡ tag
+  pub tag_written : take (length tag) (take n out') ≡ tag
   unfolding object_of
   tag_written = ap (take (length tag)) given.0 ∙ take_at tag (form_of (length value) ++ value) (length tag) refl
 
-  pub value_written : drop (length tag + length (form_of (length value))) (take r.length out') ≡ value
+  pub value_written : drop (length tag + length (form_of (length value))) (take n out') ≡ value
   unfolding object_of
   value_written =
       let f = form_of (length value) in
@@ -71,12 +60,12 @@ module _ (tag value out : List ℕ) (r : Answer) (out' : List ℕ) (w : Gives (w
 
 -- ---- READ, THEN WRITE: the same bytes
 
-module _ (input : List ℕ) (bytes : AllBytes input) (r : ObjectRead) (is : r ≡ read_of input) (z : r.refusal ≡ 0) where
-  right : object_refusal input ≡ 0
-  right = sym (read_refusal input) ∙ ap (λ (x : ObjectRead). x.refusal) (sym is) ∙ z
+module _ (input : List ℕ) (bytes : AllBytes input) (r : ObjectRead) (is : (let a : Result ObjectRead Refusal = Ok r in a) ≡ read_of input) where
+  right : object_refusal input ≡ None
+  right = read_right input r is
 
-  good : r ≡ record { refusal = 0; tag = tag_size input; header = header_size input; whole = header_size input + value_size input }
-  good = is ∙ read_good input right
+  good : r ≡ record { tag = tag_size input; header = header_size input; whole = header_size input + value_size input }
+  good = read_is input r is
 
   tag_is : take r.tag input ≡ take (tag_size input) input
   tag_is = ap (λ (x : ObjectRead). take x.tag input) good
@@ -91,19 +80,19 @@ module _ (input : List ℕ) (bytes : AllBytes input) (r : ObjectRead) (is : r �
   whole_is : r.whole ≡ object_size input
   whole_is = ap (λ (x : ObjectRead). x.whole) good ∙ sym (size_good input right)
 
-  writes : write_object (take r.tag input) (take (r.whole - r.header) (drop r.header input)) ≡ Good (take r.whole input)
+  writes : write_object (take r.tag input) (take (r.whole - r.header) (drop r.header input)) ≡ Ok (take r.whole input)
   writes =
       ap (λ (t : List ℕ). write_object t (take (r.whole - r.header) (drop r.header input))) tag_is ∙ ap (write_object (take (tag_size input) input)) value_is
       ∙ fit_writes (take (tag_size input) input) (take (value_size input) (drop (header_size input) input)) (read_fit input bytes right)
-      ∙ ap Good (read_written input bytes right ∙ ap (λ (n : ℕ). take n input) (sym whole_is))
+      ∙ ap Ok (read_written input bytes right ∙ ap (λ (n : ℕ). take n input) (sym whole_is))
 
-  pub read_then_write : (out : List ℕ) (a : Answer) (out' : List ℕ)
+  pub read_then_write : (out : List ℕ) (a : Result ℕ Refusal) (out' : List ℕ)
       → Gives (write_object (take r.tag input) (take (r.whole - r.header) (drop r.header input))) out a out' → r.whole ≤ length out
-      → (a ≡ answer_of (Good (take r.whole input))) × (out' ≡ over (take r.whole input) out)
+      → (a ≡ answer_of (Ok (take r.whole input))) × (out' ≡ over (take r.whole input) out)
   read_then_write out a out' g h =
-      let l = size_le input in
+      let l = object_within input in
       let q = whole_is in
       let n : length (take r.whole input) ≡ r.whole = length-take-le r.whole input (omega arith) in
       let t = le-ltb (length out) (length (take r.whole input)) (omega arith) in
-      let w = subst (λ (x : Result). Gives x out a out') writes g in
+      let w = subst (λ (x : Output). Gives x out a out') writes g in
       (w.answer ∙ rw t refl, w.bytes ∙ rw t refl)

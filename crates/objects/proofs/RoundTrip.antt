@@ -9,17 +9,19 @@ use lib.ListN.{length, take, drop, length-append, length-drop}
 use lib.Seq.{take_at, drop_at, drop-drop, take-add, length-take-le}
 use lib.Dec.{leb, eqb}
 use borrow.Author.Tests.{leb-true, eqb-true, eqb-false, eq-eqb, ne_eqb, not-true}
-use Rattle.answer.specs.Answers.Result.{Good, Refused}
+use Rattle.std.specs.Prelude.{None, Result, Ok, Err}
+use Rattle.answer.specs.declared.refusal.Refusal.{Refusal}
+use Rattle.answer.specs.declared.refusal.Refusal.TheVariants.{NoTag, LongValue}
 use Rattle.answer.proofs.Promises.{same_good, not_good}
-use Rattle.objects.specs.declared.Form.{Form}
 use Rattle.objects.specs.declared.ObjectRead.{ObjectRead}
 use Rattle.objects.specs.Tag.{tag_size, is_tag}
-use Rattle.objects.specs.LengthForm.{form, form_of, form_at}
+use Rattle.objects.specs.LengthForm.{form, form_of, form_at, size_in, value_in}
 use Rattle.objects.specs.Object.{object_of, write_object, header_size, value_size, object_refusal, object_size, read_of, object_in}
 use Rattle.objects.specs.Claims.{AllBytes, Fit}
 use Rattle.answer.proofs.Parts.{and_left, and_right}
-use Rattle.objects.proofs.TagSizes.{tag_append, tag_take, tag_le}
-use Rattle.objects.proofs.LengthForms.{form_read, form_some}
+use Rattle.objects.proofs.TagSizes.{tag_append, tag_take}
+use Rattle.objects.specs.Within.{tag_within}
+use Rattle.objects.proofs.LengthForms.{form_read}
 use Rattle.objects.proofs.Objects.{Sound, sound_parts, sound_refusal, read_good, size_good, object_length, object_in_lem}
 use Rattle.objects.proofs.Writing.{write_good}
 use Rattle.objects.proofs.OnlyForm.{bytes_drop, form_only}
@@ -31,17 +33,17 @@ tag_fit tag e =
     (i, λ z. n (sym i ∙ z))
 
 -- what the writer gives, and for what
-pub write_gives : (tag value s : List ℕ) → write_object tag value ≡ Good s → Fit tag value × (s ≡ object_of tag value)
+pub write_gives : (tag value s : List ℕ) → write_object tag value ≡ Ok s → Fit tag value × (s ≡ object_of tag value)
 unfolding write_object
 write_gives tag value s = cases (is_tag tag) (leb (length value) 65535) refl refl
   where
-    cases : (a b : Bool) → is_tag tag ≡ a → leb (length value) 65535 ≡ b → cond a (cond b (Good (object_of tag value)) (Refused 33)) (Refused 30) ≡ Good s
+    cases : (a b : Bool) → is_tag tag ≡ a → leb (length value) 65535 ≡ b → cond a (cond b (Ok (object_of tag value)) (Err LongValue)) (Err NoTag) ≡ Ok s
         → Fit tag value × (s ≡ object_of tag value)
     cases false b e f z = absurd (not_good z)
     cases true false e f z = absurd (not_good z)
     cases true true e f z = (record { tag_is = (tag_fit tag e).0; some = (tag_fit tag e).1; small = leb-true (length value) 65535 f }, sym (same_good z))
 
-pub fit_writes : (tag value : List ℕ) → Fit tag value → write_object tag value ≡ Good (object_of tag value)
+pub fit_writes : (tag value : List ℕ) → Fit tag value → write_object tag value ≡ Ok (object_of tag value)
 fit_writes tag value f =
     let t = f.tag_is in
     let n : length tag ≡ 0 → ⊥ = λ z. f.some (t ∙ z) in
@@ -69,11 +71,11 @@ module _ (tag value more : List ℕ) (f : Fit tag value) where
   header_there : header_size xs ≡ length tag + length (form_of (length value))
   header_there =
       let t = tag_there in
-      let s : (form_at (drop (tag_size xs) xs)).size ≡ length (form_of (length value)) = ap (λ (r : Form). r.size) form_there in
+      let s : size_in (form_at (drop (tag_size xs) xs)) ≡ length (form_of (length value)) = ap size_in form_there in
       omega arith
 
   value_there : value_size xs ≡ length value
-  value_there = ap (λ (r : Form). r.value) form_there
+  value_there = ap value_in form_there
 
   whole_there : header_size xs + value_size xs ≡ length (object_of tag value)
   whole_there = let h = header_there in let v = value_there in let l = object_length tag value in omega arith
@@ -81,21 +83,21 @@ module _ (tag value more : List ℕ) (f : Fit tag value) where
   good_there : Sound xs
   good_there =
       let t = tag_there in
-      let s : (form_at (drop (tag_size xs) xs)).size ≡ length (form_of (length value)) = ap (λ (r : Form). r.size) form_there in
+      let s : size_in (form_at (drop (tag_size xs) xs)) ≡ length (form_of (length value)) = ap size_in form_there in
       let w = whole_there in
       let l = length-append (object_of tag value) more in
       record {
         tag = λ z. f.some (f.tag_is ∙ sym t ∙ z);
-        form = λ z. form_some (length value) (sym s ∙ z);
+        form = λ z. absurd (let no = sym form_there ∙ z in cc);
         fits = omega arith;
       }
 
   -- WRITTEN, THEN READ: the lengths of an object that was written are read, whatever follows it
-  pub written_read : read_of xs ≡ record { refusal = 0; tag = length tag; header = length tag + length (form_of (length value)); whole = length (object_of tag value) }
+  pub written_read : read_of xs ≡ Ok (record { tag = length tag; header = length tag + length (form_of (length value)); whole = length (object_of tag value) })
   written_read = read_good xs (sound_refusal xs good_there) ∙ lengths tag_there header_there whole_there
     where
       lengths : {t t' h h' w w' : ℕ} → t ≡ t' → h ≡ h' → w ≡ w'
-          → ◌≡◌ {A = ObjectRead} (record { refusal = 0; tag = t; header = h; whole = w }) (record { refusal = 0; tag = t'; header = h'; whole = w' })
+          → ◌≡◌ {A = Result ObjectRead Refusal} (Ok (record { tag = t; header = h; whole = w })) (Ok (record { tag = t'; header = h'; whole = w' }))
       lengths p q r = rw (p, q, r) refl
 
   pub size_there : object_size xs ≡ length (object_of tag value)
@@ -121,11 +123,11 @@ module _ (tag value more : List ℕ) (f : Fit tag value) where
 
 -- ---- an object that reads
 
-module _ (xs : List ℕ) (bytes : AllBytes xs) (e : object_refusal xs ≡ 0) where
+module _ (xs : List ℕ) (bytes : AllBytes xs) (e : object_refusal xs ≡ None) where
   g : Sound xs
   g = sound_parts xs e
 
-  only : (take (form_at (drop (tag_size xs) xs)).size (drop (tag_size xs) xs) ≡ form_of (value_size xs)) × (value_size xs ≤ 65535)
+  only : (take (size_in (form_at (drop (tag_size xs) xs))) (drop (tag_size xs) xs) ≡ form_of (value_size xs)) × (value_size xs ≤ 65535)
   only = form_only (drop (tag_size xs) xs) (bytes_drop (tag_size xs) xs bytes) g.form
 
   value_length : length (take (value_size xs) (drop (header_size xs) xs)) ≡ value_size xs
@@ -134,7 +136,7 @@ module _ (xs : List ℕ) (bytes : AllBytes xs) (e : object_refusal xs ≡ 0) whe
   pub read_fit : Fit (take (tag_size xs) xs) (take (value_size xs) (drop (header_size xs) xs))
   read_fit =
       let t = tag_take xs (tag_size xs) (le_refl (tag_size xs)) in
-      let l = length-take-le (tag_size xs) xs (tag_le xs) in
+      let l = length-take-le (tag_size xs) xs (tag_within xs) in
       let v = value_length in
       let o = only.1 in
       record { tag_is = t ∙ sym l; some = λ z. g.tag (sym t ∙ z); small = omega arith }
@@ -144,7 +146,7 @@ module _ (xs : List ℕ) (bytes : AllBytes xs) (e : object_refusal xs ≡ 0) whe
   unfolding object_of
   read_written =
       let t = tag_size xs in
-      let f = (form_at (drop (tag_size xs) xs)).size in
+      let f = size_in (form_at (drop (tag_size xs) xs)) in
       let v = value_size xs in
       ap (λ (n : ℕ). take t xs ++ (form_of n ++ take v (drop (header_size xs) xs))) value_length
       ∙ ap (λ (l : List ℕ). take t xs ++ (l ++ take v (drop (header_size xs) xs))) (sym only.0)

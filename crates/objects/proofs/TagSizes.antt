@@ -4,7 +4,7 @@ use mathlib.Core.Bool.{Bool, true, false, cond}
 use mathlib.Core.List.{List, [], ◌∷◌, ◌++◌}
 use Prim.Native.Nat.{ℕ, zero, suc, ◌≤◌}
 use native.Mathlib.Omega.{arith}
-use lib.ListN.{length, take}
+use lib.ListN.{take}
 use lib.Dec.{ltb}
 use Rattle.objects.specs.Tag.{bad_first, calls_for_more, size_of_two, tag_size}
 
@@ -16,21 +16,6 @@ by s t m = cond s 0 (cond t m 1)
 
 abbrev two_if : Bool → ℕ
 two_if u = cond u 2 0
-
-pub tag_le : (xs : List ℕ) → tag_size xs ≤ length xs
-unfolding tag_size size_of_two
-tag_le [] = omega arith
-tag_le (a ∷ xs) = first (bad_first a) (calls_for_more a) xs
-  where
-    second : (t : Bool) (b : ℕ) (ys : List ℕ) → two_if t ≤ suc (suc (length ys))
-    second true b ys = omega arith
-    second false b ys = omega arith
-
-    first : (s t : Bool) (ys : List ℕ) → by s t (size_of_two ys) ≤ suc (length ys)
-    first true t ys = omega arith
-    first false false ys = omega arith
-    first false true [] = omega arith
-    first false true (b ∷ ys) = second (ltb b 0x80) b ys
 
 -- what stands after a tag does not change it
 pub tag_append : (xs ys : List ℕ) → (tag_size xs ≡ 0 → ⊥) → tag_size (xs ++ ys) ≡ tag_size xs

@@ -1,4 +1,4 @@
--- Writing an object: its three parts put next to one another, and the writer by its tests.
+-- Writing an object: its three parts put next to one another, and what the writer gives.
 use mathlib.Core.Path.{◌≡◌, ap, ◌∙◌}
 use mathlib.Core.Bool.{true}
 use mathlib.Core.List.{List, ◌++◌, append_assoc}
@@ -6,14 +6,14 @@ use Prim.Native.Nat.{ℕ, ◌+◌, ◌≤◌}
 use native.Mathlib.Omega.{arith}
 use lib.ListN.{length, length-append}
 use borrow.Author.Tests.{le-leb}
-use Rattle.answer.specs.Answers.Result.{Good}
+use Rattle.std.specs.Prelude.{Ok}
+use Rattle.answer.specs.Answers.{Gives}
 use Rattle.answer.specs.Laid.{pasted, Puts, PutIf}
-use Rattle.answer.proofs.Laid.{put_fits, pasted_length}
+use Rattle.answer.proofs.Laws.{gives_as, gives_good}
+use Rattle.answer.proofs.Laid.{put_fits, pasted_length, pasted_start, pasted_join}
 use Rattle.objects.specs.Tag.{is_tag}
 use Rattle.objects.specs.LengthForm.{form_of}
 use Rattle.objects.specs.Object.{object_of, write_object}
-use Rattle.objects.specs.Steps.{Room}
-use Rattle.answer.proofs.Laid.{pasted_join}
 use Rattle.objects.proofs.Objects.{object_length}
 
 -- what is put next to something that was put
@@ -29,22 +29,30 @@ puts_join out at s t p o₁ q o₂ h a b =
       next = simp length-append (omega arith);
     }
 
--- tag, length form and value
-pub puts_object : (out : List ℕ) (at : ℕ) (tag value : List ℕ) (p : ℕ) (o₁ : List ℕ) (q : ℕ) (o₂ : List ℕ) (r : ℕ) (o₃ : List ℕ) → Room out at tag value
-    → PutIf out at tag p o₁ → PutIf o₁ p (form_of (length value)) q o₂ → PutIf o₂ q value r o₃ → Puts out at (object_of tag value) r o₃
-unfolding object_of
-puts_object out at tag value p o₁ q o₂ r o₃ room a b c =
-    let fits = room.fits in
-    let l = object_length tag value in
-    let n = length-append tag (form_of (length value)) in
-    let first = put_fits out at tag p o₁ (omega arith) a in
-    let two = puts_join out at tag (form_of (length value)) p o₁ q o₂ (omega arith) first b in
-    let three = puts_join out at (tag ++ form_of (length value)) value q o₂ r o₃ (omega arith) two c in
-    rw append_assoc at three
-
 -- ---- the writer, by its tests
 
 module _ (tag value : List ℕ) where
-  pub write_good : is_tag tag ≡ true → length value ≤ 65535 → write_object tag value ≡ Good (object_of tag value)
+  pub write_good : is_tag tag ≡ true → length value ≤ 65535 → write_object tag value ≡ Ok (object_of tag value)
   unfolding write_object
   write_good e h = simp (e, le-leb (length value) 65535 h)
+
+  -- tag, length form and value
+  pub puts_object : (out : List ℕ) (p : ℕ) (o₁ : List ℕ) (q : ℕ) (o₂ : List ℕ) (r : ℕ) (o₃ : List ℕ) → length (object_of tag value) ≤ length out
+      → PutIf out 0 tag p o₁ → PutIf o₁ p (form_of (length value)) q o₂ → PutIf o₂ q value r o₃ → Puts out 0 (object_of tag value) r o₃
+  unfolding object_of
+  puts_object out p o₁ q o₂ r o₃ fits a b c =
+      let l = object_length tag value in
+      let n = length-append tag (form_of (length value)) in
+      let first = put_fits out 0 tag p o₁ (omega arith) a in
+      let two = puts_join out 0 tag (form_of (length value)) p o₁ q o₂ (omega arith) first b in
+      let three = puts_join out 0 (tag ++ form_of (length value)) value q o₂ r o₃ (omega arith) two c in
+      rw append_assoc at three
+
+  pub writes_object : (out : List ℕ) (p : ℕ) (o₁ : List ℕ) (q : ℕ) (o₂ : List ℕ) (r : ℕ) (o₃ : List ℕ)
+      → is_tag tag ≡ true → length value ≤ 65535 → length (object_of tag value) ≤ length out
+      → PutIf out 0 tag p o₁ → PutIf o₁ p (form_of (length value)) q o₂ → PutIf o₂ q value r o₃ → Gives (write_object tag value) out (Ok r) o₃
+  writes_object out p o₁ q o₂ r o₃ t v fits a b c =
+      let u = puts_object out p o₁ q o₂ r o₃ fits a b c in
+      let n = u.next in
+      let e : r ≡ length (object_of tag value) = omega arith in
+      gives_as out o₃ (Ok r) (write_good t v) (gives_good (object_of tag value) out o₃ (Ok r) fits (ap Ok e) (u.bytes ∙ pasted_start (object_of tag value) out))

@@ -1,7 +1,8 @@
 -- The terms of the theorems on one object, and the scope paper's marked samples on it (section Sample line traffic).
-use Rattle.std.specs.Prelude.{◌≡◌, List, [], ◌∷◌, ℕ, ◌≤◌, ◌<◌, length, replicate}
+use Rattle.std.specs.Prelude.{◌≡◌, List, [], ◌∷◌, ℕ, ◌≤◌, ◌<◌, length, replicate, Ok, Err}
 use Rattle.objects.specs.Tag.{tag_size}
-use Rattle.objects.specs.Object.{read_of, bad_read}
+use Rattle.answer.specs.declared.refusal.Refusal.TheVariants.{NoLength}
+use Rattle.objects.specs.Object.{read_of}
 
 -- a list of bytes
 abbrev pub AllBytes : List ℕ → Type 0
@@ -16,8 +17,8 @@ pub record Fit (tag value : List ℕ) : Type 0 where
 
 pub record ObjectSamples : Type 0 where
   -- a tag of two bytes, one byte of length and one of value
-  pub short : read_of (0x9f ∷ 0x27 ∷ 0x01 ∷ 0x40 ∷ []) ≡ record { refusal = 0; tag = 2; header = 3; whole = 4 }
+  pub short : read_of (0x9f ∷ 0x27 ∷ 0x01 ∷ 0x40 ∷ []) ≡ Ok (record { tag = 2; header = 3; whole = 4 })
   -- 81h before a length below 80h
-  pub needless : read_of (0x9f ∷ 0x27 ∷ 0x81 ∷ 0x05 ∷ 0x01 ∷ 0x02 ∷ 0x03 ∷ 0x04 ∷ 0x05 ∷ []) ≡ bad_read 31
+  pub needless : read_of (0x9f ∷ 0x27 ∷ 0x81 ∷ 0x05 ∷ 0x01 ∷ 0x02 ∷ 0x03 ∷ 0x04 ∷ 0x05 ∷ []) ≡ Err NoLength
   -- 82h before the length 0100h, and 256 bytes of value
-  pub long : read_of (0x50 ∷ 0x82 ∷ 0x01 ∷ 0x00 ∷ replicate 256 0x41) ≡ record { refusal = 0; tag = 1; header = 4; whole = 260 }
+  pub long : read_of (0x50 ∷ 0x82 ∷ 0x01 ∷ 0x00 ∷ replicate 256 0x41) ≡ Ok (record { tag = 1; header = 4; whole = 260 })

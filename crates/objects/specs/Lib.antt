@@ -1,6 +1,6 @@
--- In the order of reading. `Steps` serves the private functions alone: no promise cites it.
+-- In the order of reading. `Within` is proved: a piece of a list stands within it.
 pub mod Tag
 pub mod LengthForm
 pub mod Object
 pub mod Claims
-pub mod Steps
+pub mod Within

@@ -1,133 +1,145 @@
--- Undoing the substitutions, one symbol after another.
-use mathlib.Core.Path.{◌≡◌, refl, sym, ap, ◌∙◌}
-use mathlib.Core.List.{List, [], ◌∷◌, ◌++◌, append-nil}
-use Prim.Native.Nat.{ℕ, suc, ◌+◌, ◌≤◌, ◌<◌}
-use native.Mathlib.Omega.{arith}
-use lib.ListN.{length, get_or, drop, set, length-append, length-drop, drop_of_length-le}
-use lib.Seq.{drop-drop, drop-cons, set_at, append_snoc}
-use borrow.Author.Tests.{ne_eqb}
+-- The laws of a body's symbols: what they come to one after another, and that this is what the body is sent for.
+use Rattle.std.proofs.Common.{◌≡◌, refl, sym, ap, ap₂, ◌∙◌, ℕ, ◌+◌, ◌≤◌, ◌<◌, Bool, true, false, cond, ◌||◌, List, [], ◌∷◌, ◌++◌, length, set, arith, Option, Some, None}
+use mathlib.Core.List.{append-nil}
+use lib.Dec.{eqb}
+use lib.ListN.{length-append, length-set}
+use lib.Seq.{append_snoc}
 use Rattle.answer.specs.Answers.{over}
+use Rattle.answer.specs.Laid.{pasted}
+use Rattle.answer.proofs.Laid.{set_one, pasted_join, pasted_none, pasted_start}
 use Rattle.crc16.specs.Register.{stepped, register_after}
 use Rattle.crc16.proofs.Steps.{step_none, step_after}
-use Rattle.packet.specs.declared.Symbol.{Symbol}
-use Rattle.packet.specs.Substitution.{Unstuffed, and_then, unstuff}
-use Rattle.packet.specs.Substitution.Unstuffed.{clean, spoiled}
-use Rattle.packet.specs.Steps.{symbol_of}
-use Rattle.packet.proofs.Symbols.{step_of, symbol_step, symbol_within}
+use Rattle.packet.specs.declared.Body.{Body}
+use Rattle.packet.specs.Substitution.{and_then, pair_then, plain_then, unstuff}
+use Rattle.packet.specs.Steps.{pair_of, plain_of, symbols, payload_in, body_of, Room}
 
-abbrev pub joined : List ℕ → Unstuffed → Unstuffed
-joined done (clean p) = clean (done ++ p)
-joined done spoiled = spoiled
+-- the payload of some symbols: none, where one stands for none
+abbrev pub given : List (Option ℕ) → Option (List ℕ)
+given [] = Some []
+given (Some b ∷ l) = and_then b (given l)
+given (None ∷ l) = None
 
-joined_then : (done : List ℕ) (b : ℕ) (u : Unstuffed) → joined done (and_then b u) ≡ joined (done ++ (b ∷ [])) u
-joined_then done b (clean p) = ap clean (sym (append_snoc done b p))
-joined_then done b spoiled = refl
+abbrev pair_by : Bool → Bool → Bool → Option ℕ
+pair_by c d e = cond c (Some 0x13) (cond d (Some 0x16) (cond e (Some 0x17) None))
 
--- ---- the two cases of a body
+abbrev pair_then_by : Bool → Bool → Bool → Option (List ℕ) → Option (List ℕ)
+pair_then_by c d e more = cond c (and_then 0x13 more) (cond d (and_then 0x16 more) (cond e (and_then 0x17 more) None))
 
-pub same_clean : {p q : List ℕ} → clean p ≡ clean q → p ≡ q
-same_clean e = cc
+abbrev first : ℕ → Bool → Bool → Option ℕ
+first x a b = cond (a || b) None (Some x)
 
-pub not_clean : {p : List ℕ} → spoiled ≡ clean p → ⊥
-not_clean e = let z : ◌≡◌ {A = ℕ} 0 1 = cc in omega arith
+one : (x : ℕ) (a b : Bool) (l : List (Option ℕ)) → cond a None (cond b None (and_then x (given l))) ≡ given (first x a b ∷ l)
+one x true b l = refl
+one x false true l = refl
+one x false false l = refl
 
--- i bytes of the body are read, and n payload bytes are done
-pub record Reading (body done : List ℕ) (n i : ℕ) : Type 0 where
-  pub count : n ≡ length done
-  pub places : n ≤ i
-  pub inside : i ≤ length body
-  pub same : unstuff body ≡ joined done (unstuff (drop i body))
+two : (x : ℕ) (a b c d e : Bool) (l m : List (Option ℕ))
+    → cond a (pair_then_by c d e (given l)) (cond b None (and_then x (given m))) ≡ given (cond a (pair_by c d e ∷ l) (first x a b ∷ m))
+two x true b true d e l m = refl
+two x true b false true e l m = refl
+two x true b false false true l m = refl
+two x true b false false false l m = refl
+two x false true c d e l m = refl
+two x false false c d e l m = refl
 
-reading_none : (body : List ℕ) → Reading body [] 0 0
-reading_none body = record { count = refl; places = omega arith; inside = omega arith; same = start (unstuff body) }
+-- A BODY'S SYMBOLS are what it is sent for
+pub symbols_given : (xs : List ℕ) → unstuff xs ≡ given (symbols xs)
+unfolding unstuff symbols pair_then plain_then pair_of plain_of
+symbols_given [] = refl
+symbols_given (x ∷ []) = one x (eqb x 0x13) (eqb x 0x16 || eqb x 0x17) []
+symbols_given (x ∷ y ∷ ys) =
+    ap₂ (λ (u v : Option (List ℕ)). cond (eqb x 0x13) (pair_then y u) (plain_then x v)) (symbols_given ys) (symbols_given (y ∷ ys))
+    ∙ two x (eqb x 0x13) (eqb x 0x16 || eqb x 0x17) (eqb y 0x33) (eqb y 0x36) (eqb y 0x37) (symbols ys) (symbols (y ∷ ys))
+
+pub symbols_short : (xs : List ℕ) → length (symbols xs) ≤ length xs
+unfolding symbols
+symbols_short [] = omega arith
+symbols_short (x ∷ []) = omega arith
+symbols_short (x ∷ y ∷ ys) = cases (eqb x 0x13) (symbols_short ys) (symbols_short (y ∷ ys))
   where
-    start : (u : Unstuffed) → u ≡ joined [] u
-    start (clean p) = refl
-    start spoiled = refl
+    cases : (a : Bool) → length (symbols ys) ≤ length ys → length (symbols (y ∷ ys)) ≤ length (y ∷ ys)
+        → length (cond a (pair_of y ∷ symbols ys) (plain_of x ∷ symbols (y ∷ ys))) ≤ length (x ∷ y ∷ ys)
+    cases true h k = omega arith
+    cases false h k = omega arith
 
-module _ (body done : List ℕ) (n i : ℕ) (u : Symbol) (r : Reading body done n i) (h : i < length body) (e : u ≡ symbol_of (drop i body)) where
-  here : unstuff (drop i body) ≡ step_of u (unstuff (drop (i + u.width) body))
-  here = symbol_step (drop i body) (simp length-drop (omega arith)) ∙ rw (← e, drop-drop) refl
+-- ---- the first walk
 
-  pub reading_wide : i + u.width ≤ length body
-  reading_wide = omega (arith, simp (length-drop, ← e) at (symbol_within (drop i body)))
+-- the judgement, where n payload bytes are read, `register` has met them, and some symbols are left
+abbrev pub body_from : ℕ → ℕ → List (Option ℕ) → Option Body
+body_from n register [] = Some (record { count = n; register = register })
+body_from n register (Some b ∷ l) = body_from (n + 1) (stepped register b) l
+body_from n register (None ∷ l) = None
 
-  pub reading_stop : u.width ≡ 0 → unstuff body ≡ spoiled
-  reading_stop z = let e : unstuff (drop i body) ≡ spoiled = here ∙ rw z refl in r.same ∙ ap (joined done) e
+abbrev joined : List ℕ → Option (List ℕ) → Option (List ℕ)
+joined done (Some p) = Some (done ++ p)
+joined done None = None
 
-  reading_more : (u.width ≡ 0 → ⊥) → Reading body (done ++ (u.byte ∷ [])) (n + 1) (i + u.width)
-  reading_more z =
-      let f : unstuff (drop i body) ≡ and_then u.byte (unstuff (drop (i + u.width) body)) = here ∙ rw (ne_eqb u.width 0 z) refl in
-      record {
-        count = simp length-append (omega (arith, r.count));
-        places = omega (arith, r.places);
-        inside = reading_wide;
-        same = r.same ∙ ap (joined done) f ∙ joined_then done u.byte (unstuff (drop (i + u.width) body));
-      }
+joined_then : (done : List ℕ) (b : ℕ) (u : Option (List ℕ)) → joined (done ++ (b ∷ [])) u ≡ joined done (and_then b u)
+joined_then done b (Some p) = ap Some (append_snoc done b p)
+joined_then done b None = refl
 
--- ---- in a clean body
+judging : (done : List ℕ) (l : List (Option ℕ)) → body_from (length done) (register_after done) l ≡ body_of (joined done (given l))
+judging done [] = ap (λ (p : List ℕ). body_of (Some p)) (sym (append-nil done))
+judging done (Some b ∷ l) =
+    let n : length done + 1 ≡ length (done ++ (b ∷ [])) = sym (length-append done (b ∷ [])) in
+    ap₂ (λ (n r : ℕ). body_from n r l) n (step_after done b) ∙ judging (done ++ (b ∷ [])) l ∙ ap body_of (joined_then done b (given l))
+judging done (None ∷ l) = refl
 
--- where a byte is left to read, a payload byte is left to find
-more_left : (done p : List ℕ) (b : ℕ) (more : Unstuffed) → clean p ≡ joined done (and_then b more) → length done < length p
-more_left done p b (clean q) e = let s : p ≡ done ++ (b ∷ q) = same_clean e in omega (arith, ap length s ∙ length-append done (b ∷ q))
-more_left done p b spoiled e = absurd (not_clean (sym e))
+-- THE JUDGEMENT of a body, symbol by symbol
+pub judged_from : (xs : List ℕ) → body_of (unstuff xs) ≡ body_from 0 0 (symbols xs)
+judged_from xs =
+    ap body_of (symbols_given xs ∙ joined_none (given (symbols xs))) ∙ sym (judging [] (symbols xs)) ∙ ap (λ (r : ℕ). body_from 0 r (symbols xs)) step_none
+  where
+    joined_none : (u : Option (List ℕ)) → u ≡ joined [] u
+    joined_none (Some p) = refl
+    joined_none None = refl
 
-module _ (body done p : List ℕ) (n i : ℕ) (c : unstuff body ≡ clean p) (r : Reading body done n i) (h : i < length body) where
-  pub reading_some : (symbol_of (drop i body)).width ≡ 0 → ⊥
-  reading_some z = not_clean (sym (reading_stop body done n i (symbol_of (drop i body)) r h refl z) ∙ c)
+module _ (xs left : List ℕ) (n register : ℕ) (i : body_from 0 0 (symbols xs) ≡ body_from n register (symbols left)) where
+  pub judged_whole : symbols left ≡ [] → (let b : Option Body = Some (record { count = n; register = register }) in b) ≡ body_of (unstuff xs)
+  judged_whole e = sym (judged_from xs ∙ i ∙ ap (body_from n register) e)
 
-  pub reading_left : n < length p
-  reading_left =
-      let u = symbol_of (drop i body) in
-      let f : unstuff (drop i body) ≡ and_then u.byte (unstuff (drop (i + u.width) body)) =
-      here body done n i u r h refl ∙ rw (ne_eqb u.width 0 reading_some) refl in
-      omega (arith, r.count, more_left done p u.byte (unstuff (drop (i + u.width) body)) (sym c ∙ r.same ∙ ap (joined done) f))
+  pub judged_none : (l : List (Option ℕ)) → symbols left ≡ None ∷ l → (let b : Option Body = None in b) ≡ body_of (unstuff xs)
+  judged_none l e = sym (judged_from xs ∙ i ∙ ap (body_from n register) e)
 
-pub reading_all : (body done : List ℕ) (n i : ℕ) → Reading body done n i → length body ≤ i → unstuff body ≡ clean done
-unfolding unstuff
-reading_all body done n i r h = r.same ∙ rw (drop_of_length-le body h) (ap clean (append-nil done))
+-- ---- the second walk: n payload bytes are laid over the start, and some symbols are left
 
--- ---- the first walk: the register has met what is done
+pub record Undoes (whole : List (Option ℕ)) (before out : List ℕ) (n : ℕ) (left : List (Option ℕ)) : Type 0 where
+  pub is : given left ≡ Some (payload_in (given left))
+  pub fits : n + length (payload_in (given left)) ≤ length out
+  pub bytes : over (payload_in (given whole)) before ≡ pasted out n (payload_in (given left))
 
-pub record Judges (body : List ℕ) (n register i : ℕ) : Type 0 where
-  pub done : List ℕ
-  pub reading : Reading body done n i
-  pub met : register ≡ register_after done
-
-pub judges_none : (body : List ℕ) → Judges body 0 0 0
-judges_none body = record { done = []; reading = reading_none body; met = sym step_none }
-
-pub judges_more : (body : List ℕ) (n register i : ℕ) (u : Symbol) (next : ℕ) (j : Judges body n register i) → i < length body → u ≡ symbol_of (drop i body) → (u.width ≡ 0 → ⊥)
-    → next ≡ stepped register u.byte → Judges body (n + 1) next (i + u.width)
-judges_more body n register i u next j h e z s =
+pub undoes_none : (xs out : List ℕ) → Room (unstuff xs) out → Undoes (symbols xs) out out 0 (symbols xs)
+undoes_none xs out r =
+    let e = symbols_given xs in
+    let h : length (payload_in (given (symbols xs))) ≤ length out = omega (arith, r.fits, ap (λ (u : Option (List ℕ)). length (payload_in u)) e) in
     record {
-      done = j.done ++ (u.byte ∷ []);
-      reading = reading_more body j.done n i u j.reading h e z;
-      met = s ∙ ap (λ (r : ℕ). stepped r u.byte) j.met ∙ step_after j.done u.byte;
+      is = sym e ∙ r.is ∙ ap (λ (u : Option (List ℕ)). Some (payload_in u)) e;
+      fits = omega (arith, h);
+      bytes = sym (pasted_start (payload_in (given (symbols xs))) out);
     }
 
--- ---- the second walk: what is done is laid over the buffer's start
+module _ (whole : List (Option ℕ)) (before out : List ℕ) (n : ℕ) where
+  pub undoes_all : Undoes whole before out n [] → out ≡ over (payload_in (given whole)) before
+  undoes_all u = sym (u.bytes ∙ pasted_none out n)
 
-pub record Undoes (body out₀ out : List ℕ) (n i : ℕ) : Type 0 where
-  pub done : List ℕ
-  pub reading : Reading body done n i
-  pub bytes : out ≡ over done out₀
+  pub undoes_not : (l : List (Option ℕ)) → Undoes whole before out n (None ∷ l) → ⊥
+  undoes_not l u = absurd (let e : (let o : Option (List ℕ) = None in o) ≡ Some [] = u.is in cc)
 
-pub undoes_none : (body out : List ℕ) → Undoes body out out 0 0
-undoes_none body out = record { done = []; reading = reading_none body; bytes = refl }
-
-set_more : (done l : List ℕ) (n b : ℕ) → n ≡ length done → n < length l → set (over done l) n b ≡ over (done ++ (b ∷ [])) l
-set_more done l n b e h =
-    let k : length (done ++ (b ∷ [])) ≡ suc n = simp length-append (omega arith) in
-    let c : drop (length done) l ≡ get_or l n 0 ∷ drop (suc n) l = ap (λ (m : ℕ). drop m l) (sym e) ∙ drop-cons l n 0 h in
-    ap (λ (t : List ℕ). set (done ++ t) n b) c ∙ set_at done (get_or l n 0) (drop (suc n) l) b n (sym e)
-    ∙ sym (append_snoc done b (drop (suc n) l)) ∙ ap (λ (m : ℕ). (done ++ (b ∷ [])) ++ drop m l) (sym k)
-
-pub undoes_more : (body out₀ out : List ℕ) (n i : ℕ) (u : Symbol) (v : Undoes body out₀ out n i) → i < length body → u ≡ symbol_of (drop i body) → (u.width ≡ 0 → ⊥) → n < length out₀
-    → Undoes body out₀ (set out n u.byte) (n + 1) (i + u.width)
-undoes_more body out₀ out n i u v h e z k =
-    record {
-      done = v.done ++ (u.byte ∷ []);
-      reading = reading_more body v.done n i u v.reading h e z;
-      bytes = ap (λ (l : List ℕ). set l n u.byte) v.bytes ∙ set_more v.done out₀ n u.byte v.reading.count k;
-    }
+  pub undoes_more : (b : ℕ) (l : List (Option ℕ)) → Undoes whole before out n (Some b ∷ l) → (n < length out) × Undoes whole before (set out n b) (n + 1) l
+  undoes_more b l u = cases (given l) refl u.is u.fits u.bytes
+    where
+      cases : (v : Option (List ℕ)) → given l ≡ v → and_then b v ≡ Some (payload_in (and_then b v)) → n + length (payload_in (and_then b v)) ≤ length out
+          → over (payload_in (given whole)) before ≡ pasted out n (payload_in (and_then b v)) → (n < length out) × Undoes whole before (set out n b) (n + 1) l
+      cases None e i f g = absurd (let z : (let o : Option (List ℕ) = None in o) ≡ Some [] = i in cc)
+      cases (Some q) e i f g =
+          let p : given l ≡ Some (payload_in (given l)) = e ∙ ap (λ (u : Option (List ℕ)). Some (payload_in u)) (sym e) in
+          let j : set out n b ≡ pasted out n (b ∷ []) = set_one out n b (omega arith) in
+          let k : pasted (set out n b) (n + 1) q ≡ pasted out n (b ∷ q) = ap (λ (o : List ℕ). pasted o (n + 1) q) j ∙ pasted_join out n (b ∷ []) q (omega arith) in
+          let m : (n + 1) + length q ≤ length (set out n b) = rw (length-set) (omega arith) in (
+            omega arith,
+            record {
+              is = p;
+              fits = rw (e) m;
+              bytes = rw (e) (g ∙ sym k);
+            },
+          )

@@ -5,7 +5,9 @@ use mathlib.Core.List.{List, [], ◌∷◌, ◌++◌, append_assoc, append-nil}
 use Prim.Native.Nat.{ℕ, suc, ◌+◌, ◌≤◌, ◌<◌}
 use native.Mathlib.Omega.{arith}
 use native.Mathlib.Numerals.{add-one}
-use lib.ListN.{length, get_or, take, drop, length-append, take-append-drop, drop_of_length-le}
+use native.Mathlib.Nat.{zero-add}
+use Rattle.std.specs.Prelude.{fold, sum_by}
+use lib.ListN.{length, get_or, take, drop, length-append, take-append-drop}
 use lib.Seq.{take-suc, drop-cons}
 use lib.Dec.{eqb}
 use Rattle.answer.specs.Answers.{over}
@@ -48,6 +50,14 @@ unfolding stuff
 stuff_two [] = omega arith
 stuff_two (b ∷ p) = rw (length-append (sent b) (stuff p)) (omega (arith, sent_two b, stuff_two p))
 
+stuff_from : (n : ℕ) (p : List ℕ) → fold (λ (a b : ℕ). a + length (sent b)) n p ≡ n + length (stuff p)
+unfolding stuff
+stuff_from n [] = omega arith
+stuff_from n (b ∷ p) = omega (arith, stuff_from (n + length (sent b)) p, length-append (sent b) (stuff p))
+
+pub stuff_sum : (p : List ℕ) → length (stuff p) ≡ sum_by (λ b. length (sent b)) p
+stuff_sum p = sym (stuff_from 0 p ∙ zero-add (length (stuff p)))
+
 pub packet_long : (p : List ℕ) → length (packet_of p) ≡ 4 + length (stuff p)
 unfolding packet_of
 packet_long p = simp length-append (omega arith)
@@ -56,7 +66,3 @@ packet_long p = simp length-append (omega arith)
 pub packet_laid : (p l : List ℕ) → pasted (over (0x16 ∷ stuff p) l) (length (0x16 ∷ stuff p)) (ending p) ≡ over (packet_of p) l
 unfolding packet_of
 packet_laid p l = over_more (0x16 ∷ stuff p) (ending p) l
-
-pub stuff_end : (p : List ℕ) (i : ℕ) → length p ≤ i → length (stuff (drop i p)) ≡ 0
-unfolding stuff
-stuff_end p i h = rw (drop_of_length-le p h) refl

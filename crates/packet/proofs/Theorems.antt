@@ -10,31 +10,31 @@ use lib.Seq.{drop-append-add, take-append_seam}
 use lib.Dec.{eqb, ltb}
 use borrow.Author.Tests.{eq-eqb, ne_eqb, le-ltb, ltb-false, eqb-true, eqb-false}
 use Rattle.crc16.specs.Crc.{check}
-use Rattle.answer.specs.declared.Answer.{Answer}
-use Rattle.answer.specs.Answers.{Result, Gives, answer_of, over}
-use Rattle.answer.specs.Answers.Result.{Good, Refused}
-use Rattle.packet.specs.Substitution.{sent, stuff, Unstuffed, and_then, pair_then, plain_then, unstuff}
+use Rattle.std.specs.Prelude.{Option, Some, None, Result, Ok, Err}
+use Rattle.answer.specs.declared.refusal.Refusal.{Refusal}
+use Rattle.answer.specs.declared.refusal.Refusal.TheVariants.{Empty, TooLong, NoPacket, WrongCheck}
+use Rattle.answer.specs.Answers.{Output, Gives, answer_of, over}
+use Rattle.packet.specs.Substitution.{sent, stuff, and_then, pair_then, plain_then, unstuff}
 use Rattle.packet.specs.Packet.{ending, packet_of, sized, write_packet, before, checked, judged, closed, rest_of, read_packet}
-use Rattle.packet.specs.Substitution.Unstuffed.{clean, spoiled}
 use Rattle.packet.specs.Claims.{IsPacket}
-use Rattle.answer.proofs.Promises.{gives_one, same_good, not_good, Numbered, success}
+use Rattle.answer.proofs.Promises.{gives_one, same_good, not_good, success}
 use Rattle.packet.proofs.Judging.{write_good}
 
 -- ---- each promise allows one result
 
-pub write_one : (p out : List ℕ) (r s : Answer) (o o' : List ℕ) → Gives (write_packet p) out r o → Gives (write_packet p) out s o' → (r ≡ s) × (o ≡ o')
+pub write_one : (p out : List ℕ) (r s : Result ℕ Refusal) (o o' : List ℕ) → Gives (write_packet p) out r o → Gives (write_packet p) out s o' → (r ≡ s) × (o ≡ o')
 write_one p = gives_one (write_packet p)
 
-pub read_one : (b out : List ℕ) (r s : Answer) (o o' : List ℕ) → Gives (read_packet b) out r o → Gives (read_packet b) out s o' → (r ≡ s) × (o ≡ o')
+pub read_one : (b out : List ℕ) (r s : Result ℕ Refusal) (o o' : List ℕ) → Gives (read_packet b) out r o → Gives (read_packet b) out s o' → (r ≡ s) × (o ≡ o')
 read_one b = gives_one (read_packet b)
 
 -- ---- facts on the constructors
 
-same_clean : {p q : List ℕ} → clean p ≡ clean q → p ≡ q
+same_clean : {p q : List ℕ} → (let u : Option (List ℕ) = Some p in u) ≡ Some q → p ≡ q
 same_clean e = cc
 
-not_clean : {p : List ℕ} → spoiled ≡ clean p → ⊥
-not_clean e = let z : ◌≡◌ {A = ℕ} 0 1 = cc in omega arith
+not_clean : {p : List ℕ} → (let u : Option (List ℕ) = None in u) ≡ Some p → ⊥
+not_clean e = cc
 
 -- ---- a payload with substitutions is read back
 
@@ -43,86 +43,86 @@ unfolding unstuff
 unstuff_plain x [] e = rw e refl
 unstuff_plain x (y ∷ ys) e = rw e refl
 
-module _ (b : ℕ) (s p : List ℕ) (ih : unstuff s ≡ clean p) where
-  read_sent : unstuff (sent b ++ s) ≡ clean (b ∷ p)
+module _ (b : ℕ) (s p : List ℕ) (ih : unstuff s ≡ Some p) where
+  read_sent : unstuff (sent b ++ s) ≡ Some (b ∷ p)
   unfolding sent unstuff pair_then plain_then
   read_sent = cases (eqb b 0x13) (eqb b 0x16) (eqb b 0x17) refl refl refl
     where
-      pair : (k : ℕ) → eqb b k ≡ true → and_then k (unstuff s) ≡ clean (b ∷ p)
-      pair k e = ap (and_then k) ih ∙ ap (λ (x : ℕ). clean (x ∷ p)) (sym (eqb-true b k e))
+      pair : (k : ℕ) → eqb b k ≡ true → and_then k (unstuff s) ≡ Some (b ∷ p)
+      pair k e = ap (and_then k) ih ∙ ap (λ (x : ℕ). Some (x ∷ p)) (sym (eqb-true b k e))
 
       cases : (x y z : Bool) → eqb b 0x13 ≡ x → eqb b 0x16 ≡ y → eqb b 0x17 ≡ z
-          → unstuff (cond x (0x13 ∷ 0x33 ∷ []) (cond y (0x13 ∷ 0x36 ∷ []) (cond z (0x13 ∷ 0x37 ∷ []) (b ∷ []))) ++ s) ≡ clean (b ∷ p)
+          → unstuff (cond x (0x13 ∷ 0x33 ∷ []) (cond y (0x13 ∷ 0x36 ∷ []) (cond z (0x13 ∷ 0x37 ∷ []) (b ∷ []))) ++ s) ≡ Some (b ∷ p)
       cases true y z f g h = pair 0x13 f
       cases false true z f g h = pair 0x16 g
       cases false false true f g h = pair 0x17 h
       cases false false false f g h = unstuff_plain b s f ∙ rw (g, h, ih) refl
 
-pub unstuff_stuff : (p : List ℕ) → unstuff (stuff p) ≡ clean p
+pub unstuff_stuff : (p : List ℕ) → unstuff (stuff p) ≡ Some p
 unfolding stuff unstuff
 unstuff_stuff [] = refl
 unstuff_stuff (b ∷ p) = read_sent b (stuff p) p (unstuff_stuff p)
 
 -- ---- what reads back is a payload with substitutions
 
-then_clean : (b : ℕ) (u : Unstuffed) (p : List ℕ) → and_then b u ≡ clean p → (q : List ℕ) × (u ≡ clean q) × (p ≡ b ∷ q)
-then_clean b (clean q) p e = (q, refl, sym (same_clean e))
-then_clean b spoiled p e = absurd (not_clean e)
+then_clean : (b : ℕ) (u : Option (List ℕ)) (p : List ℕ) → and_then b u ≡ Some p → (q : List ℕ) × (u ≡ Some q) × (p ≡ b ∷ q)
+then_clean b (Some q) p e = (q, refl, sym (same_clean e))
+then_clean b None p e = absurd (not_clean e)
 
 -- the byte that stands before what u reads to, and how it is sent
-record Sent (s : List ℕ) (u : Unstuffed) (p : List ℕ) : Type 0 where
+record Sent (s : List ℕ) (u : Option (List ℕ)) (p : List ℕ) : Type 0 where
   byte : ℕ
   rest : List ℕ
-  reads : u ≡ clean rest
+  reads : u ≡ Some rest
   whole : p ≡ byte ∷ rest
   sends : sent byte ≡ s
 
-sent_pair : (y : ℕ) (u : Unstuffed) (p : List ℕ) → pair_then y u ≡ clean p → Sent (0x13 ∷ y ∷ []) u p
+sent_pair : (y : ℕ) (u : Option (List ℕ)) (p : List ℕ) → pair_then y u ≡ Some p → Sent (0x13 ∷ y ∷ []) u p
 unfolding pair_then sent
 sent_pair y u p = cases (eqb y 0x33) (eqb y 0x36) (eqb y 0x37) refl refl refl
   where
-    pair : (v k : ℕ) → sent v ≡ 0x13 ∷ k ∷ [] → eqb y k ≡ true → and_then v u ≡ clean p → Sent (0x13 ∷ y ∷ []) u p
+    pair : (v k : ℕ) → sent v ≡ 0x13 ∷ k ∷ [] → eqb y k ≡ true → and_then v u ≡ Some p → Sent (0x13 ∷ y ∷ []) u p
     pair v k s h e =
         let (q, r, w) = then_clean v u p e in
         record { byte = v; rest = q; reads = r; whole = w; sends = s ∙ ap (λ (n : ℕ). 0x13 ∷ n ∷ []) (sym (eqb-true y k h)) }
 
     cases : (a b c : Bool) → eqb y 0x33 ≡ a → eqb y 0x36 ≡ b → eqb y 0x37 ≡ c
-        → cond a (and_then 0x13 u) (cond b (and_then 0x16 u) (cond c (and_then 0x17 u) spoiled)) ≡ clean p → Sent (0x13 ∷ y ∷ []) u p
+        → cond a (and_then 0x13 u) (cond b (and_then 0x16 u) (cond c (and_then 0x17 u) None)) ≡ Some p → Sent (0x13 ∷ y ∷ []) u p
     cases true b c f g h e = pair 0x13 0x33 refl f e
     cases false true c f g h e = pair 0x16 0x36 refl g e
     cases false false true f g h e = pair 0x17 0x37 refl h e
     cases false false false f g h e = absurd (not_clean e)
 
-sent_plain : (x : ℕ) (u : Unstuffed) (p : List ℕ) → eqb x 0x13 ≡ false → plain_then x u ≡ clean p → Sent (x ∷ []) u p
+sent_plain : (x : ℕ) (u : Option (List ℕ)) (p : List ℕ) → eqb x 0x13 ≡ false → plain_then x u ≡ Some p → Sent (x ∷ []) u p
 unfolding plain_then sent
 sent_plain x u p o = cases (eqb x 0x16) (eqb x 0x17) refl refl
   where
-    cases : (a b : Bool) → eqb x 0x16 ≡ a → eqb x 0x17 ≡ b → cond (a || b) spoiled (and_then x u) ≡ clean p → Sent (x ∷ []) u p
+    cases : (a b : Bool) → eqb x 0x16 ≡ a → eqb x 0x17 ≡ b → cond (a || b) None (and_then x u) ≡ Some p → Sent (x ∷ []) u p
     cases true b f g e = absurd (not_clean e)
     cases false true f g e = absurd (not_clean e)
     cases false false f g e =
         let (q, r, w) = then_clean x u p e in
         record { byte = x; rest = q; reads = r; whole = w; sends = rw (o, f, g) refl }
 
-sent_then : (s t p : List ℕ) (u : Unstuffed) → ((q : List ℕ) → u ≡ clean q → t ≡ stuff q) → Sent s u p → s ++ t ≡ stuff p
+sent_then : (s t p : List ℕ) (u : Option (List ℕ)) → ((q : List ℕ) → u ≡ Some q → t ≡ stuff q) → Sent s u p → s ++ t ≡ stuff p
 unfolding stuff
 sent_then s t p u ih k = ap₂ (λ (a b : List ℕ). a ++ b) (sym k.sends) (ih k.rest k.reads) ∙ sym (ap stuff k.whole)
 
-pub stuff_unstuff : (b p : List ℕ) → unstuff b ≡ clean p → b ≡ stuff p
+pub stuff_unstuff : (b p : List ℕ) → unstuff b ≡ Some p → b ≡ stuff p
 unfolding unstuff stuff
 stuff_unstuff [] p e = ap stuff (same_clean e)
 stuff_unstuff (x ∷ []) p e = cases (eqb x 0x13) refl e
   where
-    nil : (q : List ℕ) → clean [] ≡ clean q → [] ≡ stuff q
+    nil : (q : List ℕ) → Some [] ≡ Some q → [] ≡ stuff q
     nil q f = ap stuff (same_clean f)
 
-    cases : (a : Bool) → eqb x 0x13 ≡ a → cond a spoiled (plain_then x (clean [])) ≡ clean p → x ∷ [] ≡ stuff p
+    cases : (a : Bool) → eqb x 0x13 ≡ a → cond a None (plain_then x (Some [])) ≡ Some p → x ∷ [] ≡ stuff p
     cases true o f = absurd (not_clean f)
-    cases false o f = sent_then (x ∷ []) [] p (clean []) nil (sent_plain x (clean []) p o f)
+    cases false o f = sent_then (x ∷ []) [] p (Some []) nil (sent_plain x (Some []) p o f)
 stuff_unstuff (x ∷ y ∷ ys) p e = cases (stuff_unstuff ys) (stuff_unstuff (y ∷ ys)) (eqb x 0x13) refl e
   where
-    cases : ((q : List ℕ) → unstuff ys ≡ clean q → ys ≡ stuff q) → ((q : List ℕ) → unstuff (y ∷ ys) ≡ clean q → y ∷ ys ≡ stuff q)
-        → (a : Bool) → eqb x 0x13 ≡ a → cond a (pair_then y (unstuff ys)) (plain_then x (unstuff (y ∷ ys))) ≡ clean p → x ∷ y ∷ ys ≡ stuff p
+    cases : ((q : List ℕ) → unstuff ys ≡ Some q → ys ≡ stuff q) → ((q : List ℕ) → unstuff (y ∷ ys) ≡ Some q → y ∷ ys ≡ stuff q)
+        → (a : Bool) → eqb x 0x13 ≡ a → cond a (pair_then y (unstuff ys)) (plain_then x (unstuff (y ∷ ys))) ≡ Some p → x ∷ y ∷ ys ≡ stuff p
     cases i j true o f = ap (λ (n : ℕ). n ∷ y ∷ ys) (eqb-true x 0x13 o) ∙ sent_then (0x13 ∷ y ∷ []) ys p (unstuff ys) i (sent_pair y (unstuff ys) p f)
     cases i j false o f = sent_then (x ∷ []) (y ∷ ys) p (unstuff (y ∷ ys)) j (sent_plain x (unstuff (y ∷ ys)) p o f)
 
@@ -148,7 +148,7 @@ before_stuff (b ∷ p) t =
     ∙ ap (λ (n : ℕ). length (sent b) + n) (before_stuff p t) ∙ sym (length-append (sent b) (stuff p))
 
 -- WRITE, THEN READ: the packet of a payload of 1 to 2,048 bytes reads as that payload
-pub read_packet_lem : (p : List ℕ) → 1 ≤ length p → length p ≤ 2048 → read_packet (packet_of p) ≡ Good p
+pub read_packet_lem : (p : List ℕ) → 1 ≤ length p → length p ≤ 2048 → read_packet (packet_of p) ≡ Ok p
 unfolding read_packet packet_of
 read_packet_lem p h k =
     let n = before_stuff p (check p / 256 ∷ check p % 256 ∷ []) in
@@ -161,11 +161,11 @@ read_packet_lem p h k =
 
 -- ---- what reads is the packet of its payload
 
-sized_good : (p q : List ℕ) (more : Result) → sized p more ≡ Good q → (1 ≤ length p) × (length p ≤ 2048) × (more ≡ Good q)
+sized_good : (p q : List ℕ) (more : Output) → sized p more ≡ Ok q → (1 ≤ length p) × (length p ≤ 2048) × (more ≡ Ok q)
 sized_good p q more = cases (eqb (length p) 0) (ltb 2048 (length p)) refl refl
   where
-    cases : (a b : Bool) → eqb (length p) 0 ≡ a → ltb 2048 (length p) ≡ b → cond a (Refused 10) (cond b (Refused 11) more) ≡ Good q
-        → (1 ≤ length p) × (length p ≤ 2048) × (more ≡ Good q)
+    cases : (a b : Bool) → eqb (length p) 0 ≡ a → ltb 2048 (length p) ≡ b → cond a (Err Empty) (cond b (Err TooLong) more) ≡ Ok q
+        → (1 ≤ length p) × (length p ≤ 2048) × (more ≡ Ok q)
     cases true b f g e = absurd (not_good e)
     cases false true f g e = absurd (not_good e)
     cases false false f g e = (nonzero (length p) (eqb-false (length p) 0 f), ltb-false 2048 (length p) g, e)
@@ -174,23 +174,23 @@ sized_good p q more = cases (eqb (length p) 0) (ltb 2048 (length p)) refl refl
         nonzero zero h = absurd (h refl)
         nonzero (suc n) h = omega arith
 
-checked_good : (p q : List ℕ) (a b : ℕ) → checked p a b ≡ Good q → (p ≡ q) × (0x17 ∷ a ∷ b ∷ [] ≡ ending p)
+checked_good : (p q : List ℕ) (a b : ℕ) → checked p a b ≡ Ok q → (p ≡ q) × (0x17 ∷ a ∷ b ∷ [] ≡ ending p)
 checked_good p q a b = cases (eqb a (check p / 256)) (eqb b (check p % 256)) refl refl
   where
-    cases : (x y : Bool) → eqb a (check p / 256) ≡ x → eqb b (check p % 256) ≡ y → cond (x && y) (Good p) (Refused 13) ≡ Good q
+    cases : (x y : Bool) → eqb a (check p / 256) ≡ x → eqb b (check p % 256) ≡ y → cond (x && y) (Ok p) (Err WrongCheck) ≡ Ok q
         → (p ≡ q) × (0x17 ∷ a ∷ b ∷ [] ≡ ending p)
     cases true true f g e = (same_good e, ap₂ (λ (m n : ℕ). 0x17 ∷ m ∷ n ∷ []) (eqb-true a (check p / 256) f) (eqb-true b (check p % 256) g))
     cases true false f g e = absurd (not_good e)
     cases false y f g e = absurd (not_good e)
 
-judged_good : (u : Unstuffed) (body p : List ℕ) (a b : ℕ) → unstuff body ≡ u → judged u a b ≡ Good p → IsPacket (0x16 ∷ (body ++ (0x17 ∷ a ∷ b ∷ []))) p
+judged_good : (u : Option (List ℕ)) (body p : List ℕ) (a b : ℕ) → unstuff body ≡ u → judged u a b ≡ Ok p → IsPacket (0x16 ∷ (body ++ (0x17 ∷ a ∷ b ∷ []))) p
 unfolding packet_of
-judged_good (clean q) body p a b h e =
+judged_good (Some q) body p a b h e =
     let (lo, hi, f) = sized_good q p (checked q a b) e in
     let (same, bytes) = checked_good q p a b f in
     subst (λ (r : List ℕ). IsPacket (0x16 ∷ (body ++ (0x17 ∷ a ∷ b ∷ []))) r) same
     (ap₂ (λ (s t : List ℕ). 0x16 ∷ (s ++ t)) (stuff_unstuff body q h) bytes, lo, hi)
-judged_good spoiled body p a b h e = absurd (not_good e)
+judged_good None body p a b h e = absurd (not_good e)
 
 before_split : (k : ℕ) (xs t : List ℕ) (x : ℕ) → drop (suc (before k xs)) xs ≡ x ∷ t → xs ≡ take (before k xs) xs ++ (k ∷ x ∷ t)
 unfolding before
@@ -202,7 +202,7 @@ before_split k (y ∷ ys) t x e = cases (eqb y k) refl (before_split k ys t x) e
     cases true f ih e = ap₂ (λ (n : ℕ) (l : List ℕ). n ∷ l) (eqb-true y k f) e
     cases false f ih e = ap (λ (l : List ℕ). y ∷ l) (ih e)
 
-closed_good : (xs tail p : List ℕ) → drop (suc (before 0x17 xs)) xs ≡ tail → closed (take (before 0x17 xs) xs) tail ≡ Good p → IsPacket (0x16 ∷ xs) p
+closed_good : (xs tail p : List ℕ) → drop (suc (before 0x17 xs)) xs ≡ tail → closed (take (before 0x17 xs) xs) tail ≡ Ok p → IsPacket (0x16 ∷ xs) p
 closed_good xs [] p h e = absurd (not_good e)
 closed_good xs (a ∷ []) p h e = absurd (not_good e)
 closed_good xs (a ∷ b ∷ []) p h e =
@@ -211,90 +211,56 @@ closed_good xs (a ∷ b ∷ []) p h e =
 closed_good xs (a ∷ b ∷ x ∷ t) p h e = absurd (not_good e)
 
 -- READ, THEN WRITE: what reads is the packet of what it reads as, which has 1 to 2,048 bytes
-pub packet_read : (b p : List ℕ) → read_packet b ≡ Good p → IsPacket b p
+pub packet_read : (b p : List ℕ) → read_packet b ≡ Ok p → IsPacket b p
 unfolding read_packet
 packet_read [] p e = absurd (not_good e)
 packet_read (x ∷ xs) p e = cases (eqb x 0x16) refl e
   where
-    cases : (t : Bool) → eqb x 0x16 ≡ t → cond t (rest_of xs) (Refused 12) ≡ Good p → IsPacket (x ∷ xs) p
+    cases : (t : Bool) → eqb x 0x16 ≡ t → cond t (rest_of xs) (Err NoPacket) ≡ Ok p → IsPacket (x ∷ xs) p
     cases true f e = subst (λ (n : ℕ). IsPacket (n ∷ xs) p) (sym (eqb-true x 0x16 f)) (closed_good xs (drop (suc (before 0x17 xs)) xs) p refl e)
     cases false f e = absurd (not_good e)
 
 -- READING ACCEPTS EXACTLY THE PACKETS
-pub reads_packets : (b p : List ℕ) → (read_packet b ≡ Good p → IsPacket b p) × (IsPacket b p → read_packet b ≡ Good p)
+pub reads_packets : (b p : List ℕ) → (read_packet b ≡ Ok p → IsPacket b p) × (IsPacket b p → read_packet b ≡ Ok p)
 reads_packets b p = (packet_read b p, λ h. ap read_packet h.0 ∙ read_packet_lem p h.1 h.2)
 
 -- what the writer gives for a payload is what reads as it
-pub writes_reads : (b p : List ℕ) → read_packet b ≡ Good p → write_packet p ≡ Good b
-writes_reads b p e = let (s, lo, hi) = packet_read b p e in write_good p (λ z. omega arith) hi ∙ ap Good (sym s)
+pub writes_reads : (b p : List ℕ) → read_packet b ≡ Ok p → write_packet p ≡ Ok b
+writes_reads b p e = let (s, lo, hi) = packet_read b p e in write_good p (λ z. omega arith) hi ∙ ap Ok (sym s)
 
-pub reads_writes : (b p : List ℕ) → write_packet p ≡ Good b → read_packet b ≡ Good p
+pub reads_writes : (b p : List ℕ) → write_packet p ≡ Ok b → read_packet b ≡ Ok p
 reads_writes b p e =
-    let (lo, hi, f) = sized_good p b (Good (packet_of p)) e in
+    let (lo, hi, f) = sized_good p b (Ok (packet_of p)) e in
     ap read_packet (sym (same_good f)) ∙ read_packet_lem p lo hi
 
 -- a packet that reads is the only packet for its payload
-pub only_packet : (b c p : List ℕ) → read_packet b ≡ Good p → read_packet c ≡ Good p → b ≡ c
+pub only_packet : (b c p : List ℕ) → read_packet b ≡ Ok p → read_packet c ≡ Ok p → b ≡ c
 only_packet b c p e f = (packet_read b p e).0 ∙ sym (packet_read c p f).0
 
 -- and no packet is sent for two payloads
 pub only_payload : (p q : List ℕ) → 1 ≤ length p → length p ≤ 2048 → 1 ≤ length q → length q ≤ 2048 → packet_of p ≡ packet_of q → p ≡ q
 only_payload p q h k l m e = same_good (sym (read_packet_lem p h k) ∙ ap read_packet e ∙ read_packet_lem q l m)
 
--- ---- the calls: refusal 0 is a success, and what was written reads back
-
-sized_numbered : (p : List ℕ) (more : Result) → Numbered more → Numbered (sized p more)
-sized_numbered p more h = cases (eqb (length p) 0) (ltb 2048 (length p))
-  where
-    cases : (a b : Bool) → Numbered (cond a (Refused 10) (cond b (Refused 11) more))
-    cases true b = λ e. omega arith
-    cases false true = λ e. omega arith
-    cases false false = h
-
-pub write_numbered : (p : List ℕ) → Numbered (write_packet p)
-write_numbered p = sized_numbered p (Good (packet_of p)) tt
-
-judged_numbered : (u : Unstuffed) (a b : ℕ) → Numbered (judged u a b)
-judged_numbered spoiled a b = λ e. omega arith
-judged_numbered (clean p) a b = sized_numbered p (checked p a b) (cases (eqb a (check p / 256) && eqb b (check p % 256)))
-  where
-    cases : (t : Bool) → Numbered (cond t (Good p) (Refused 13))
-    cases true = tt
-    cases false = λ e. omega arith
-
-closed_numbered : (body t : List ℕ) → Numbered (closed body t)
-closed_numbered body [] = λ e. omega arith
-closed_numbered body (a ∷ []) = λ e. omega arith
-closed_numbered body (a ∷ b ∷ []) = judged_numbered (unstuff body) a b
-closed_numbered body (a ∷ b ∷ x ∷ t) = λ e. omega arith
-
-pub read_numbered : (b : List ℕ) → Numbered (read_packet b)
-unfolding read_packet
-read_numbered [] = λ e. omega arith
-read_numbered (x ∷ xs) = cases (eqb x 0x16)
-  where
-    cases : (t : Bool) → Numbered (cond t (rest_of xs) (Refused 12))
-    cases true = closed_numbered (take (before 0x17 xs) xs) (drop (suc (before 0x17 xs)) xs)
-    cases false = λ e. omega arith
+-- ---- the calls: what was written reads back
 
 -- WRITE, THEN READ, as calls
-pub write_then_read : (p out : List ℕ) (r : Answer) (out' buf : List ℕ) (s : Answer) (buf' : List ℕ)
-    → Gives (write_packet p) out r out' → r.refusal ≡ 0 → length p ≤ length buf → Gives (read_packet (take r.length out')) buf s buf'
-    → (s ≡ answer_of (Good p)) × (buf' ≡ over p buf)
-write_then_read p out r out' buf s buf' w z room g =
-    let d = success (write_packet p) out r out' (write_numbered p) w z in
-    let e : read_packet (take r.length out') ≡ Good p = ap read_packet d.bytes ∙ reads_writes d.given p d.is in
-    let h = subst (λ (x : Result). Gives x buf s buf') e g in
+pub write_then_read : (p out : List ℕ) (n : ℕ) (out' buf : List ℕ) (s : Result ℕ Refusal) (buf' : List ℕ)
+    → Gives (write_packet p) out (Ok n) out' → length p ≤ length buf → Gives (read_packet (take n out')) buf s buf'
+    → (s ≡ answer_of (Ok p)) × (buf' ≡ over p buf)
+write_then_read p out n out' buf s buf' w room g =
+    let d = success (write_packet p) out n out' w in
+    let e : read_packet (take n out') ≡ Ok p = ap read_packet d.bytes ∙ reads_writes d.given p d.is in
+    let h = subst (λ (x : Output). Gives x buf s buf') e g in
     let t = le-ltb (length buf) (length p) room in
     (h.answer ∙ rw t refl, h.bytes ∙ rw t refl)
 
 -- READ, THEN WRITE, as calls: the same bytes come back
-pub read_then_write : (b out : List ℕ) (r : Answer) (out' buf : List ℕ) (s : Answer) (buf' : List ℕ)
-    → Gives (read_packet b) out r out' → r.refusal ≡ 0 → length b ≤ length buf → Gives (write_packet (take r.length out')) buf s buf'
-    → (s ≡ answer_of (Good b)) × (buf' ≡ over b buf)
-read_then_write b out r out' buf s buf' w z room g =
-    let d = success (read_packet b) out r out' (read_numbered b) w z in
-    let e : write_packet (take r.length out') ≡ Good b = ap write_packet d.bytes ∙ writes_reads b d.given d.is in
-    let h = subst (λ (x : Result). Gives x buf s buf') e g in
+pub read_then_write : (b out : List ℕ) (n : ℕ) (out' buf : List ℕ) (s : Result ℕ Refusal) (buf' : List ℕ)
+    → Gives (read_packet b) out (Ok n) out' → length b ≤ length buf → Gives (write_packet (take n out')) buf s buf'
+    → (s ≡ answer_of (Ok b)) × (buf' ≡ over b buf)
+read_then_write b out n out' buf s buf' w room g =
+    let d = success (read_packet b) out n out' w in
+    let e : write_packet (take n out') ≡ Ok b = ap write_packet d.bytes ∙ writes_reads b d.given d.is in
+    let h = subst (λ (x : Output). Gives x buf s buf') e g in
     let t = le-ltb (length buf) (length b) room in
     (h.answer ∙ rw t refl, h.bytes ∙ rw t refl)

@@ -1,49 +1,42 @@
 -- What the private functions come to. No public promise cites it, and no reader has to believe it.
-use Rattle.std.specs.Prelude.{ℕ, ◌≤◌, ◌≡◌, true, false, ◌||◌, cond, List, [], ◌∷◌, length, eqb}
-use Rattle.packet.specs.declared.Symbol.{Symbol}
+use Rattle.std.specs.Prelude.{ℕ, ◌≤◌, ◌≡◌, ◌||◌, cond, List, [], ◌∷◌, length, eqb, Option, Some, None}
 use Rattle.answer.specs.Laid.{Puts}
 use Rattle.crc16.specs.Register.{register_after}
 use Rattle.packet.specs.declared.Body.{Body}
 use Rattle.packet.specs.declared.Stuffed.{Stuffed}
-use Rattle.packet.specs.Substitution.{stuff, Unstuffed}
-use Rattle.packet.specs.Substitution.Unstuffed.{clean, spoiled}
+use Rattle.packet.specs.Substitution.{stuff}
 
-abbrev pub symbol : ℕ → ℕ → Symbol
-symbol w b = record { width = w; byte = b }
-
--- the pair that ends with y
-unfoldable pub pair_of : ℕ → Symbol
+-- what a pair that ends with y stands for
+unfoldable pub pair_of : ℕ → Option ℕ
 pair_of y =
-    cond (eqb y 0x33) (symbol 2 0x13)
-    (cond (eqb y 0x36) (symbol 2 0x16)
-    (cond (eqb y 0x37) (symbol 2 0x17)
-    (symbol 0 0)))
+    cond (eqb y 0x33) (Some 0x13)
+    (cond (eqb y 0x36) (Some 0x16)
+    (cond (eqb y 0x37) (Some 0x17)
+    None))
 
-abbrev pub after_of : List ℕ → Symbol
-after_of [] = symbol 0 0
-after_of (y ∷ ys) = pair_of y
+-- what a byte outside a pair stands for
+unfoldable pub plain_of : ℕ → Option ℕ
+plain_of x = cond (eqb x 0x13 || (eqb x 0x16 || eqb x 0x17)) None (Some x)
 
--- the byte or pair that a list starts with, and its width: 0 where none stands there
-unfoldable pub symbol_of : List ℕ → Symbol
-symbol_of [] = symbol 0 0
-symbol_of (x ∷ xs) =
-    cond (eqb x 0x13) (after_of xs)
-    (cond (eqb x 0x16 || eqb x 0x17) (symbol 0 0)
-    (symbol 1 x))
+-- what the bytes and pairs of a body stand for, one after another
+unfoldable pub symbols : List ℕ → List (Option ℕ)
+symbols [] = []
+symbols (x ∷ []) = plain_of x ∷ []
+symbols (x ∷ y ∷ ys) = cond (eqb x 0x13) (pair_of y ∷ symbols ys) (plain_of x ∷ symbols (y ∷ ys))
 
--- the payload of a clean body
-abbrev pub payload_in : Unstuffed → List ℕ
-payload_in (clean p) = p
-payload_in spoiled = []
+-- the payload of a body that is sent for one
+abbrev pub payload_in : Option (List ℕ) → List ℕ
+payload_in (Some p) = p
+payload_in None = []
 
--- whether a body is clean, how many payload bytes it has, and the check's register after them
-abbrev pub body_of : Unstuffed → Body
-body_of (clean p) = record { good = true; count = length p; register = register_after p }
-body_of spoiled = record { good = false; count = 0; register = 0 }
+-- how many payload bytes a body has, and the check's register after them
+abbrev pub body_of : Option (List ℕ) → Option Body
+body_of (Some p) = Some (record { count = length p; register = register_after p })
+body_of None = None
 
--- a body that is clean, and room for its payload
-pub record Room (u : Unstuffed) (out : List ℕ) : Type 0 where
-  pub is : u ≡ clean (payload_in u)
+-- a body that is sent for a payload, and room for that
+pub record Room (u : Option (List ℕ)) (out : List ℕ) : Type 0 where
+  pub is : u ≡ Some (payload_in u)
   pub fits : length (payload_in u) ≤ length out
 
 -- SYN and the payload with substitutions are put at the start, and the check's register has met the payload

@@ -1,5 +1,5 @@
 -- The substitutions of a payload, and undoing them (scope paper, section Packet).
-use Rattle.std.specs.Prelude.{ℕ, ◌||◌, cond, List, [], ◌∷◌, ◌++◌, eqb}
+use Rattle.std.specs.Prelude.{ℕ, ◌||◌, cond, List, [], ◌∷◌, ◌++◌, eqb, Option, Some, None}
 
 -- how one payload byte is sent: 13h, 16h and 17h each as a pair that starts with 13h, any other byte as itself
 unfoldable pub sent : ℕ → List ℕ
@@ -16,30 +16,25 @@ stuff (b ∷ p) = sent b ++ stuff p
 
 -- ---- undoing them
 
--- the payload that some bytes are sent for, or that they are sent for none
-pub data Unstuffed : Type 0 where
-  clean : List ℕ → Unstuffed
-  spoiled : Unstuffed
-
 -- one payload byte before the others
-abbrev pub and_then : ℕ → Unstuffed → Unstuffed
-and_then b (clean p) = clean (b ∷ p)
-and_then b spoiled = spoiled
+abbrev pub and_then : ℕ → Option (List ℕ) → Option (List ℕ)
+and_then b (Some p) = Some (b ∷ p)
+and_then b None = None
 
 -- a pair by its second byte: 33h, 36h and 37h make the three pairs, any other is a bad pair
-unfoldable pub pair_then : ℕ → Unstuffed → Unstuffed
+unfoldable pub pair_then : ℕ → Option (List ℕ) → Option (List ℕ)
 pair_then y more =
     cond (eqb y 0x33) (and_then 0x13 more)
     (cond (eqb y 0x36) (and_then 0x16 more)
     (cond (eqb y 0x37) (and_then 0x17 more)
-    spoiled))
+    None))
 
 -- a byte outside a pair: itself, unless it is a raw SYN or ETB
-unfoldable pub plain_then : ℕ → Unstuffed → Unstuffed
-plain_then x more = cond (eqb x 0x16 || eqb x 0x17) spoiled (and_then x more)
+unfoldable pub plain_then : ℕ → Option (List ℕ) → Option (List ℕ)
+plain_then x more = cond (eqb x 0x16 || eqb x 0x17) None (and_then x more)
 
--- byte by byte and pair by pair; a 13h with nothing after it is a bad pair
-unfoldable pub unstuff : List ℕ → Unstuffed
-unstuff [] = clean []
-unstuff (x ∷ []) = cond (eqb x 0x13) spoiled (plain_then x (clean []))
+-- THE PAYLOAD that some bytes are sent for, or none. It is read byte by byte and pair by pair; a 13h with nothing after it is a bad pair
+unfoldable pub unstuff : List ℕ → Option (List ℕ)
+unstuff [] = Some []
+unstuff (x ∷ []) = cond (eqb x 0x13) None (plain_then x (Some []))
 unstuff (x ∷ y ∷ ys) = cond (eqb x 0x13) (pair_then y (unstuff ys)) (plain_then x (unstuff (y ∷ ys)))

@@ -1,29 +1,14 @@
 // The packet of a payload, written and read (scope paper, section Packet).
 #![tactic(auto)]
 
-ghost use Rattle.std.specs.Prelude.{◌≡◌, ◌+◌, ◌/◌, ◌%◌, ◌≤◌, ◌<◌, ◌∷◌, [], length, drop};
+ghost use Rattle.std.specs.Prelude.{◌≡◌, ◌+◌, ◌/◌, ◌%◌, ◌≤◌, ◌∷◌, [], length};
 ghost use Rattle.answer.specs.Answers.{Gives, over};
 ghost use Rattle.answer.specs.Laid.{pasted, Puts};
 ghost use Rattle.packet.specs.Substitution.{sent, stuff, unstuff};
 ghost use Rattle.packet.specs.Packet.{packet_of, write_packet, before, judged, rest_of, read_packet};
-ghost use Rattle.packet.specs.Steps.{symbol_of, pair_of, payload_in, body_of, Room, Stuffs};
+ghost use Rattle.packet.specs.Steps.{pair_of, plain_of, symbols, payload_in, body_of, Room, Stuffs};
 
-use answer::{Answer, refused};
-
-// A byte of a payload as it is sent: on how many bytes it stands, 0 where none stands there.
-#[derive(Drop)]
-struct Symbol {
-    width: usize,
-    byte: u8,
-}
-
-// What stands between SYN and ETB: whether a payload is sent so, how many bytes it has, and the check's register after them.
-#[derive(Drop)]
-struct Body {
-    good: bool,
-    count: usize,
-    register: u16,
-}
+use answer::Refusal;
 
 // Where the next byte of a packet goes, and the check's register after the payload.
 #[derive(Drop)]
@@ -51,13 +36,7 @@ fn packet_length(payload: &[u8]) -> usize
     requires { length payload.now ≤ 2048 }
     ensures { result ≡ length (packet_of payload.now) }
 {
-    let mut n = 4;
-    let mut i = 0;
-    while i < payload.len() {
-        n += sent_length(payload[i]);
-        i += 1;
-    }
-    n
+    4 + payload.iter().map(|&b| sent_length(b)).sum::<usize>()
 }
 
 // Puts 13h and `y` at `at`.
@@ -105,12 +84,9 @@ fn put_stuffed(payload: &[u8], out: &mut [u8]) -> Stuffed
     out[0] = 0x16;
     let mut at = 1;
     let mut register = 0;
-    let mut i = 0;
-    while i < payload.len() {
-        let b = payload[i];
+    for &b in payload {
         register = crc16::step(register, b);
         at = put_sent(out, at, b);
-        i += 1;
     }
     Stuffed { at, register }
 }
@@ -121,116 +97,101 @@ fn put_ending(out: &mut [u8], at: usize, c: u16)
     requires { at + 3 ≤ length out.old }
     ensures { out.new ≡ pasted out.old at (0x17 ∷ c / 256 ∷ c % 256 ∷ []) }
 {
+    let [high, low] = c.to_be_bytes();
     out[at] = 0x17;
-    out[at + 1] = (c / 256) as u8;
-    out[at + 2] = (c % 256) as u8;
+    out[at + 1] = high;
+    out[at + 2] = low;
 }
 
 // Writes the packet of `payload` to the start of `out`. Refusals in this order: 10, 11, 1.
-pub fn write_packet(payload: &[u8], out: &mut [u8]) -> Answer
+pub fn write_packet(payload: &[u8], out: &mut [u8]) -> Result<usize, Refusal>
     ensures { Gives (write_packet payload.now) out.old result out.new }
 {
-    if payload.len() == 0 {
-        return refused(10);
+    if payload.is_empty() {
+        return Err(Refusal::Empty);
     }
     if 2048 < payload.len() {
-        return refused(11);
+        return Err(Refusal::TooLong);
     }
     let length = packet_length(payload);
     if out.len() < length {
-        return refused(1);
+        return Err(Refusal::NoRoom);
     }
     put_packet(payload, out);
-    Answer { refusal: 0, length }
+    Ok(length)
 }
 
 // ---- the reader
 
-// What a pair that ends with `y` stands for.
+// What a pair that ends with `y` stands for: none, where it is a bad pair.
 #[tactic(auto, unfolding(crate::specs::Steps::pair_of))]
-fn pair(y: u8) -> Symbol
+fn pair(y: u8) -> Option<u8>
     ensures { result ≡ pair_of y }
 {
     match y {
-        0x33 => Symbol {
-            width: 2,
-            byte: 0x13,
-        },
-        0x36 => Symbol {
-            width: 2,
-            byte: 0x16,
-        },
-        0x37 => Symbol {
-            width: 2,
-            byte: 0x17,
-        },
-        _ => Symbol { width: 0, byte: 0 },
+        0x33 => Some(0x13),
+        0x36 => Some(0x16),
+        0x37 => Some(0x17),
+        _ => None,
     }
 }
 
-// The byte or pair at `i`.
-#[tactic(auto, using(crate::proofs::Symbols::symbol_pair), unfolding(crate::specs::Steps::symbol_of))]
-fn symbol_at(body: &[u8], i: usize) -> Symbol
-    requires { i < length body.now }
-    ensures { result ≡ symbol_of (drop i body.now) }
+// What a byte outside a pair stands for: none, where it is a raw SYN or ETB, or a 13h that starts no pair.
+#[tactic(auto, unfolding(crate::specs::Steps::plain_of))]
+fn plain(x: u8) -> Option<u8>
+    ensures { result ≡ plain_of x }
 {
-    let x = body[i];
     match x {
-        0x13 => {
-            if i + 1 < body.len() {
-                pair(body[i + 1])
-            } else {
-                Symbol { width: 0, byte: 0 }
-            }
-        }
-        0x16 => Symbol { width: 0, byte: 0 },
-        0x17 => Symbol { width: 0, byte: 0 },
-        _ => Symbol { width: 1, byte: x },
+        0x13 | 0x16 | 0x17 => None,
+        _ => Some(x),
     }
+}
+
+// What the bytes and pairs of a body stand for, one after another.
+#[derive(Drop)]
+struct Symbols<'a> {
+    rest: &'a [u8],
+}
+
+impl<'a> Iterator for Symbols<'a> {
+    ghost use Rattle.std.specs.Iterator.{item_count, YieldsFirst};
+
+    type Item = Option<u8>;
+
+    ghost next_gives = { YieldsFirst (λ s. symbols s.rest.now) };
+
+    ghost remaining = { item_count (λ s. symbols s.rest.now) };
+
+    #[tactic(auto, unfolding(crate::specs::Steps::symbols))]
+    fn next(&mut self) -> Option<Option<u8>> {
+        let (symbol, rest) = match self.rest {
+            [] => return None,
+            [0x13, y, rest @ ..] => (pair(*y), rest),
+            [x, rest @ ..] => (plain(*x), rest),
+        };
+        self.rest = rest;
+        Some(symbol)
+    }
+}
+
+// What a body that is sent for a payload is: how many bytes the payload has, and the check's register after them.
+#[derive(Drop)]
+struct Body {
+    count: usize,
+    register: u16,
 }
 
 // Judges `body` and writes nothing: a refusal must leave the caller's buffer as it was.
-fn judge(body: &[u8]) -> Body
+fn judge(body: &[u8]) -> Option<Body>
     ensures { result ≡ body_of (unstuff body.now) }
 {
-    let mut n = 0;
+    let mut count = 0;
     let mut register = 0u16;
-    let mut i = 0;
-    while i < body.len() {
-        let u = symbol_at(body, i);
-        if u.width == 0 {
-            return Body {
-                good: false,
-                count: 0,
-                register: 0,
-            };
-        }
-        register = crc16::step(register, u.byte);
-        n += 1;
-        i += u.width;
+    for symbol in (Symbols { rest: body }) {
+        register = crc16::step(register, symbol?);
+        count += 1;
     }
-    Body {
-        good: true,
-        count: n,
-        register,
-    }
-}
-
-// The byte or pair at `i` of a body that was judged: the second byte of each pair is 20h over the payload byte.
-#[tactic(auto, using(crate::proofs::Symbols::again_inside, crate::proofs::Symbols::again_pair, crate::proofs::Symbols::again_plain))]
-fn symbol_again(body: &[u8], i: usize) -> Symbol
-    requires { (i < length body.now) × ((symbol_of (drop i body.now)).width ≡ 0 → ⊥) }
-    ensures { result ≡ symbol_of (drop i body.now) }
-{
-    let x = body[i];
-    if x == 0x13 {
-        Symbol {
-            width: 2,
-            byte: body[i + 1] - 0x20,
-        }
-    } else {
-        Symbol { width: 1, byte: x }
-    }
+    Some(Body { count, register })
 }
 
 // Undoes the substitutions of a body that was judged.
@@ -238,83 +199,55 @@ fn undo(body: &[u8], out: &mut [u8])
     requires { Room (unstuff body.now) out.old }
     ensures { out.new ≡ over (payload_in (unstuff body.now)) out.old }
 {
-    let mut n = 0;
-    let mut i = 0;
-    while i < body.len() {
-        let u = symbol_again(body, i);
-        out[n] = u.byte;
-        n += 1;
-        i += u.width;
-    }
-}
-
-// How many bytes stand before the first ETB.
-fn before_etb(s: &[u8]) -> usize
-    ensures { result ≡ before 0x17 s.now }
-{
-    let mut i = 0;
-    while i < s.len() {
-        if s[i] == 0x17 {
-            return i;
+    for (n, symbol) in (Symbols { rest: body }).enumerate() {
+        if let Some(b) = symbol {
+            out[n] = b;
         }
-        i += 1;
     }
-    i
 }
 
 // Gives the payload that `body` is sent for, where `a` and `b` are its check.
-fn read_body(body: &[u8], a: u8, b: u8, out: &mut [u8]) -> Answer
+fn read_body(body: &[u8], a: u8, b: u8, out: &mut [u8]) -> Result<usize, Refusal>
     ensures { Gives (judged (unstuff body.now) a b) out.old result out.new }
 {
-    let found = judge(body);
-    let n = found.count;
-    if !found.good {
-        return refused(12);
+    let Body { count, register } = judge(body).ok_or(Refusal::NoPacket)?;
+    if count == 0 {
+        return Err(Refusal::Empty);
     }
-    if n == 0 {
-        return refused(10);
+    if 2048 < count {
+        return Err(Refusal::TooLong);
     }
-    if 2048 < n {
-        return refused(11);
+    let check = crc16::step(register, 0x17);
+    if [a, b] != check.to_be_bytes() {
+        return Err(Refusal::WrongCheck);
     }
-    let c = crc16::step(found.register, 0x17);
-    if !((a as u16 == c / 256) & (b as u16 == c % 256)) {
-        return refused(13);
-    }
-    if out.len() < n {
-        return refused(1);
+    if out.len() < count {
+        return Err(Refusal::NoRoom);
     }
     undo(body, out);
-    Answer {
-        refusal: 0,
-        length: n,
-    }
+    Ok(count)
 }
 
 // Gives the payload of what follows SYN.
-#[tactic(auto, using(answer::proofs::Laws::gives_refused, answer::proofs::Laws::gives_as, crate::proofs::Closing::before_le, crate::proofs::Closing::rest_is, crate::proofs::Closing::rest_not))]
-fn read_rest(rest: &[u8], out: &mut [u8]) -> Answer
+fn read_rest(rest: &[u8], out: &mut [u8]) -> Result<usize, Refusal>
     ensures { Gives (rest_of rest.now) out.old result out.new }
 {
-    let n = before_etb(rest);
-    if rest.len() - n == 3 {
-        read_body(&rest[0..n], rest[n + 1], rest[n + 2], out)
-    } else {
-        refused(12)
+    let Some(n) = rest.iter().position(|&b| b == 0x17) else {
+        return Err(Refusal::NoPacket);
+    };
+    match rest.split_at(n) {
+        (body, [_, a, b]) => read_body(body, *a, *b, out),
+        _ => Err(Refusal::NoPacket),
     }
 }
 
 // Writes the payload of the packet `bytes` to the start of `out`. Refusals in this order: 12, 10, 11, 13, 1.
 #[tactic(auto, using(answer::proofs::Laws::gives_refused, answer::proofs::Laws::gives_as, crate::proofs::Judging::read_empty, crate::proofs::Judging::read_syn, crate::proofs::Judging::read_other))]
-pub fn read_packet(bytes: &[u8], out: &mut [u8]) -> Answer
+pub fn read_packet(bytes: &[u8], out: &mut [u8]) -> Result<usize, Refusal>
     ensures { Gives (read_packet bytes.now) out.old result out.new }
 {
-    if bytes.len() == 0 {
-        return refused(12);
-    }
-    if bytes[0] == 0x16 {
-        read_rest(&bytes[1..], out)
-    } else {
-        refused(12)
+    match bytes {
+        [0x16, rest @ ..] => read_rest(rest, out),
+        _ => Err(Refusal::NoPacket),
     }
 }

@@ -1,33 +1,23 @@
--- `packet::judge` meets its contract: the register has met the payload bytes that are done.
-use mathlib.Core.Path.{◌≡◌, sym, ap}
-use native.Mathlib.Omega.{arith}
-use Rattle.packet.specs.Substitution.{unstuff}
-use Rattle.packet.specs.Substitution.Unstuffed.{clean}
-use Rattle.packet.specs.Steps.{body_of}
-use Rattle.packet.proofs.Reading.{reading_wide, reading_stop, reading_all, judges_none, judges_more}
+-- A symbol that stands for none ends the walk; at its end no symbol is left.
+use Rattle.std.proofs.Common.{rules, ap, ◌∙◌, ◌≤◌, ◌∷◌, length}
+use Rattle.packet.specs.Steps.{symbols}
+use Rattle.packet.proofs.Reading.{judged_whole, judged_none, symbols_short}
 use Rattle.packet.proofs.judge.Goals as goal
 
-pub loop-i-init : goal.loop-i-init
-loop-i-init c = judges_none c.args.body.now
+pub loop-symbol-init : goal.loop-symbol-init
+loop-symbol-init c =
+    let e = c.into_iter-symbol-iterator.ensures.into_iter_gives in
+    let h : length (symbols c.args.body.now) ≤ length c.args.body.now = symbols_short c.args.body.now in
+    search rules
 
-pub returns-then-u-eq0 : goal.returns-then-u-eq0
-returns-then-u-eq0 c =
-    let l = c.loop-i in
-    sym (ap body_of (reading_stop c.args.body.now l.invariant.done l.n l.i c.symbol_at-u.result l.invariant.reading (omega arith) c.symbol_at-u.ensures c.if-u-eq0.true))
-
-pub overflow_add-i : goal.overflow_add-i
-overflow_add-i c =
-    let l = c.loop-i in
-    omega (arith, reading_wide c.args.body.now l.invariant.done l.n l.i c.symbol_at-u.result l.invariant.reading (omega arith) c.symbol_at-u.ensures)
-
-pub loop-i-preserved : goal.loop-i-preserved
-loop-i-preserved c =
-    let l = c.loop-i in
-    judges_more c.args.body.now l.n l.register l.i c.symbol_at-u.result c.step-register.result l.invariant (omega arith) c.symbol_at-u.ensures c.if-u-eq0.false c.step-register.ensures
+pub returns-in_err-symbol : goal.returns-in_err-symbol
+returns-in_err-symbol c =
+    let l = c.loop-symbol in
+    let left = symbols c.next.new.self.rest.now in
+    let none = judged_none c.args.body.now l.symbol-iterator.rest.now l.count l.register l.invariant.3 left (c.in-Some.ensures.steps ∙ ap (λ s. s ∷ left) c.in_err-symbol.was) in
+    search rules
 
 pub returns : goal.returns
 returns c =
-    let l = c.loop-i in
-    let j = l.invariant in
-    let s : unstuff c.args.body.now ≡ clean j.done = reading_all c.args.body.now j.done l.n l.i j.reading (omega arith) in
-    simp (s, j.reading.count, j.met)
+    let l = c.loop-symbol in
+    judged_whole c.args.body.now l.symbol-iterator.rest.now l.count l.register l.invariant.3 c.in-None.ensures.steps.0

@@ -1,11 +1,11 @@
--- `packet::judge` meets its contract: the register has met the payload bytes that are done.
-use Prim.Native.Nat.{◌-◌}
-use lib.ListN.{length}
-use Rattle.packet.proofs.Reading.{Judges}
+-- The symbols that are left come to the same judgement.
+use Rattle.std.proofs.Common.{◌≡◌, ◌+◌, ◌≤◌, length}
+use Rattle.packet.specs.Steps.{symbols}
+use Rattle.packet.proofs.Reading.{body_from}
 use Rattle.packet.proofs.judge.Given as goal
 
-abbrev pub invariant-loop-i : goal.invariant-loop-i
-invariant-loop-i l = Judges l.body l.n l.register l.i
-
-abbrev pub decreases-loop-i : goal.decreases-loop-i
-decreases-loop-i l = length l.body - l.i
+abbrev pub invariant-loop-symbol : goal.invariant-loop-symbol
+invariant-loop-symbol l =
+    let left = symbols l.symbol-iterator.rest.now in
+    (goal.iterator-loop-symbol).can_next l.symbol-iterator × (goal.iterator-loop-symbol).is_finite l.symbol-iterator
+    × (l.count + length left ≤ length l.body) × (body_from 0 0 (symbols l.body) ≡ body_from l.count l.register left)

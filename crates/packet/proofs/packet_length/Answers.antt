@@ -1,22 +1,26 @@
--- `packet::packet_length` meets its contract: n is the length of the packet without what is left.
-use native.Mathlib.Omega.{arith}
-use lib.ListN.{get_or}
-use Rattle.packet.proofs.Stuffing.{stuff_next, packet_long, sent_two, stuff_end}
+-- Each byte is sent as at most two, so the sum fits.
+use Rattle.std.proofs.Common.{rules, tests, of_calls, ◌≡◌, ◌<◌, ◌^◌, arith, length}
+use Rattle.std.specs.Prelude.{sum_by}
+use Rattle.std.proofs.lemmas.Iterator.{YieldsList-from_slice, YieldsList-from_map}
+use Rattle.std.proofs.lemmas.Iterator.Consumers.{fits_by_from_yields_list}
+use Rattle.packet.specs.Substitution.{sent}
+use Rattle.packet.proofs.Stuffing.{stuff_sum, stuff_two, packet_long}
 use Rattle.packet.proofs.packet_length.Goals as goal
 
-pub loop-i-init : goal.loop-i-init
-loop-i-init c = (omega arith, omega arith, packet_long c.args.payload.now)
+pub sum-requires : goal.sum-requires
+sum-requires c =
+    let p = c.args.payload.now in
+    let small : sum_by (λ b. length (sent b)) p < 2 ^ 64 = omega (arith, stuff_sum p, stuff_two p, c.requires) in
+    record { can = search of_calls; finite = search of_calls; fits = fits_by_from_yields_list _ _ c.map.result _ (YieldsList-from_map _ (λ b. length (sent b)) (YieldsList-from_slice p cc) c.map.ensures.closure (λ x r q k. search (rules, tests))) small }
 
-pub overflow_add-n : goal.overflow_add-n
-overflow_add-n c = omega (arith, sent_two (get_or c.args.payload.now c.loop-i.i 0), c.sent_length-n.ensures)
-
-pub loop-i-preserved : goal.loop-i-preserved
-loop-i-preserved c =
-    let l = c.loop-i in
-    let s = c.args.payload.now in
-    let two = sent_two (get_or s l.i 0) in
-    let next = stuff_next s l.i (omega arith) in
-    (omega arith, omega (arith, two, c.sent_length-n.ensures), omega (arith, next, c.sent_length-n.ensures, l.invariant.2))
+pub overflow_add-result : goal.overflow_add-result
+overflow_add-result c =
+    let p = c.args.payload.now in
+    let sum : c.sum.result ≡ sum_by (λ b. length (sent b)) p = search rules in
+    omega (arith, sum, stuff_sum p, stuff_two p, c.requires)
 
 pub returns : goal.returns
-returns c = let l = c.loop-i in omega (arith, stuff_end c.args.payload.now l.i (omega arith), l.invariant.2)
+returns c =
+    let p = c.args.payload.now in
+    let sum : c.sum.result ≡ sum_by (λ b. length (sent b)) p = search rules in
+    omega (arith, sum, stuff_sum p, packet_long p)

@@ -1,4 +1,4 @@
--- `packet::put_stuffed` meets its contract: SYN and the first i payload bytes with substitutions are laid over the start, and the register has met these bytes.
+-- One payload byte more is laid after those before it, and the register meets it.
 use Prim.Native.Nat.{ℕ, ◌+◌, ◌≤◌, ◌<◌}
 use mathlib.Core.Path.{◌≡◌, refl, sym, ◌∙◌, ap}
 use mathlib.Core.List.{List, ◌∷◌}
@@ -30,27 +30,26 @@ met p i r s h e f =
     f ∙ ap (λ (n : ℕ). stepped n (get_or p i 0)) e ∙ step_after (take i p) (get_or p i 0)
     ∙ ap register_after (sym (take-suc p i 0 h) ∙ ap (λ (n : ℕ). take n p) (sym (add-one i)))
 
-pub loop-i-init : goal.loop-i-init
+pub loop-b-init : goal.loop-b-init
 unfolding stuff
-loop-i-init c = (omega arith, refl, over_first 0x16 c.args.out.now (omega arith), refl, sym step_none)
+loop-b-init c = (refl, over_first 0x16 c.args.out.now (omega arith), refl, sym step_none)
 
 pub put_sent-at-requires : goal.put_sent-at-requires
 put_sent-at-requires c =
-    let l = c.loop-i in
+    let l = c.loop-b in
     let p = c.args.payload.now in
-    let h : l.at + length (sent (get_or p l.i 0)) ≤ length l.out =
-    omega (arith, stuff_split p l.i, stuff_next p l.i (omega arith), l.invariant.1, l.invariant.3, c.requires, length-set c.args.out.now 0 0x16) in
+    let h : l.at + length (sent (get_or p l.b-index 0)) ≤ length l.out =
+    omega (arith, stuff_split p l.b-index, stuff_next p l.b-index (omega arith), l.invariant.0, l.invariant.2, c.requires, length-set c.args.out.now 0 0x16) in
     h
 
-pub loop-i-preserved : goal.loop-i-preserved
-loop-i-preserved c =
-    let l = c.loop-i in
+pub loop-b-preserved : goal.loop-b-preserved
+loop-b-preserved c =
+    let l = c.loop-b in
     let p = c.args.payload.now in
     let o = set c.args.out.now 0 0x16 in
     let put = c.put_sent-at.ensures in (
-      omega arith,
-      put.next ∙ ap (λ (n : ℕ). n + length (sent (get_or p l.i 0))) l.invariant.1 ∙ sym (longer p l.i (omega arith)),
-      put.bytes ∙ ap (λ (n : ℕ). pasted l.out n (sent (get_or p l.i 0))) l.invariant.1 ∙ ap (λ (x : List ℕ). pasted x (length (sofar p l.i)) (sent (get_or p l.i 0))) l.invariant.2 ∙ more p o l.i (omega arith),
+      put.next ∙ ap (λ (n : ℕ). n + length (sent (get_or p l.b-index 0))) l.invariant.0 ∙ sym (longer p l.b-index (omega arith)),
+      put.bytes ∙ ap (λ (n : ℕ). pasted l.out n (sent (get_or p l.b-index 0))) l.invariant.0 ∙ ap (λ (x : List ℕ). pasted x (length (sofar p l.b-index)) (sent (get_or p l.b-index 0))) l.invariant.1 ∙ more p o l.b-index (omega arith),
       search rules,
-      met p l.i l.register c.step-register.result (omega arith) l.invariant.4 c.step-register.ensures,
+      met p l.b-index l.register c.step-register.result (omega arith) l.invariant.3 c.step-register.ensures,
     )

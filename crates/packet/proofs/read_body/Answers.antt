@@ -1,44 +1,37 @@
--- `packet::read_body` meets its contract: by what the first walk tells.
-use mathlib.Core.Bool.{true, false}
-use Prim.Native.Nat.{◌≤◌}
-use native.Mathlib.Omega.{arith}
-use borrow.Author.Tests.{not-false}
-use lib.ListN.{length}
+-- By what the first walk tells: the check, and then the room.
+use Rattle.std.proofs.Common.{rules, ◌≡◌, refl, ap, ◌<◌, ◌^◌, arith, true, false, Option, Some, Ok}
 use Rattle.packet.specs.Substitution.{unstuff}
-use Rattle.packet.specs.Steps.{payload_in}
+use Rattle.packet.specs.Steps.{payload_in, body_of}
+use Rattle.packet.specs.declared.Body.{Body}
 use Rattle.answer.proofs.Laws.{gives_refused, gives_as, gives_none, gives_good}
-use Rattle.packet.proofs.Judging.{body_count, body_clean, body_check, judged_by}
+use Rattle.packet.proofs.Judging.{body_some, judged_by}
 use Rattle.packet.proofs.read_body.Goals as goal
 
-pub returns-then-not-a-c : goal.returns-then-not-a-c
-returns-then-not-a-c c =
+pub returns-then-ne : goal.returns-then-ne
+returns-then-ne c =
     let a = c.args in
-    let j = c.judge-found in
-    let u = unstuff a.body.now in
-    gives_refused _ 13 a.out.now _
-    (judged_by u (payload_in u) j.result.count a.a a.b (body_clean u j.result j.ensures (not-false _ c.if-not-found.false)) (body_count u j.result j.ensures) (λ z. omega arith) (omega arith)
-    c.step-c.result false (body_check u j.result j.ensures c.step-c.result c.step-c.ensures) c.if-not-a-c.true)
-    c.refused-then-not-a-c.ensures
+    let r = c.in_ok-count.field-0 in
+    let found : (let b : Option Body = Some r in b) ≡ body_of (unstuff a.body.now) = search rules in
+    let small : c.step-check.result < 2 ^ 16 = search rules in
+    let out = judged_by (unstuff a.body.now) r found c.if-count-eq0.false c.if-count-gt2048.false a.a a.b c.step-check.result c.to_be_bytes.result true small c.step-check.ensures c.to_be_bytes.ensures c.if-ne.ensures in
+    gives_refused _ _ a.out.now _ out refl
 
-pub returns-then-out-n : goal.returns-then-out-n
-returns-then-out-n c =
+pub returns-then-out-count : goal.returns-then-out-count
+returns-then-out-count c =
     let a = c.args in
-    let j = c.judge-found in
-    let u = unstuff a.body.now in
-    let n = body_count u j.result j.ensures in
-    gives_as a.out.now _ _
-    (judged_by u (payload_in u) j.result.count a.a a.b (body_clean u j.result j.ensures (not-false _ c.if-not-found.false)) n (λ z. omega arith) (omega arith)
-    c.step-c.result true (body_check u j.result j.ensures c.step-c.result c.step-c.ensures) c.if-not-a-c.false)
-    (gives_none (payload_in u) a.out.now _ (omega (arith, n, c.if-out-n.true)) c.refused-then-out-n.ensures)
+    let r = c.in_ok-count.field-0 in
+    let found : (let b : Option Body = Some r in b) ≡ body_of (unstuff a.body.now) = search rules in
+    let small : c.step-check.result < 2 ^ 16 = search rules in
+    let out = judged_by (unstuff a.body.now) r found c.if-count-eq0.false c.if-count-gt2048.false a.a a.b c.step-check.result c.to_be_bytes.result false small c.step-check.ensures c.to_be_bytes.ensures c.if-ne.ensures in
+    let n = body_some (unstuff a.body.now) r found in
+    gives_as a.out.now _ _ out (gives_none (payload_in (unstuff a.body.now)) a.out.now _ (omega (arith, n.1, c.if-out-count.true)) refl)
 
 pub returns : goal.returns
 returns c =
     let a = c.args in
-    let j = c.judge-found in
-    let u = unstuff a.body.now in
-    let n = body_count u j.result j.ensures in
-    let h : length (payload_in u) ≤ length a.out.now = omega (arith, n, c.if-out-n.false) in
-    gives_as a.out.now _ _
-    (judged_by u (payload_in u) j.result.count a.a a.b (body_clean u j.result j.ensures (not-false _ c.if-not-found.false)) n (λ z. omega arith) (omega arith)
-    c.step-c.result true (body_check u j.result j.ensures c.step-c.result c.step-c.ensures) c.if-not-a-c.false)
-    (gives_good (payload_in u) a.out.now _ _ h (simp n) c.undo.ensures)
+    let r = c.in_ok-count.field-0 in
+    let found : (let b : Option Body = Some r in b) ≡ body_of (unstuff a.body.now) = search rules in
+    let small : c.step-check.result < 2 ^ 16 = search rules in
+    let out = judged_by (unstuff a.body.now) r found c.if-count-eq0.false c.if-count-gt2048.false a.a a.b c.step-check.result c.to_be_bytes.result false small c.step-check.ensures c.to_be_bytes.ensures c.if-ne.ensures in
+    let n = body_some (unstuff a.body.now) r found in
+    gives_as a.out.now _ _ out (gives_good (payload_in (unstuff a.body.now)) a.out.now _ _ (omega (arith, n.1, c.if-out-count.false)) (ap Ok n.1) c.undo.ensures)

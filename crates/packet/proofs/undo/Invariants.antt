@@ -1,12 +1,9 @@
--- `packet::undo` meets its contract: what is done is laid over the start.
-use Prim.Native.Nat.{◌-◌}
-use mathlib.Core.Path.{◌≡◌}
-use lib.ListN.{length}
+-- The bytes of the symbols so far are laid over the start.
+use Rattle.packet.specs.Steps.{symbols}
 use Rattle.packet.proofs.Reading.{Undoes}
 use Rattle.packet.proofs.undo.Given as goal
 
-abbrev pub invariant-loop-i : goal.invariant-loop-i
-invariant-loop-i l = (length l.out ≡ length l.initial.out) × Undoes l.body l.initial.out l.out l.n l.i
-
-abbrev pub decreases-loop-i : goal.decreases-loop-i
-decreases-loop-i l = length l.body - l.i
+abbrev pub invariant-loop-n : goal.invariant-loop-n
+invariant-loop-n l =
+    (goal.iterator-loop-n).can_next l.n-iterator × (goal.iterator-loop-n).is_finite l.n-iterator
+    × Undoes (symbols l.body) l.initial.out l.out l.n-iterator.count (symbols l.n-iterator.iter.rest.now)

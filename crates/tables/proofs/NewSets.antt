@@ -10,11 +10,11 @@ use Rattle.records.specs.Record.{record_in, recs, kind_of, network_of, is_kind, 
 use Rattle.records.specs.Store.{store_of, fits, sound_store}
 use Rattle.records.specs.Claims.{AllRecords, SoundAs}
 use Rattle.records.proofs.Stores.{sound_as, as_sound, used_part, sound_recs, fits_bytes, store_long, store_none, zeros_sound}
+use Rattle.std.specs.Prelude.{Option, Some, None, is_some}
 use Rattle.tables.specs.declared.Extent.{Extent}
 use Rattle.tables.specs.declared.Load.{Load}
-use Rattle.tables.specs.declared.Closed.{Closed}
-use Rattle.tables.specs.Closing.{not_named, new_set, new_bytes, new_records, closes, Closes}
-use Rattle.tables.specs.Claims.{new_in, new_fits}
+use Rattle.tables.specs.Closing.{not_named, new_set, new_bytes, new_records, new_extent, closes, Closes}
+use Rattle.tables.specs.Claims.{new_in, new_fits, extent_after}
 use Rattle.answer.proofs.Parts.{and_left, and_right, flatten_append, every_append, all_join}
 
 -- ---- what a load for one network takes, a load for 00 takes
@@ -99,10 +99,21 @@ module _ (network : ℕ) (extent : Extent) (live : List ℕ) (load : Load) (load
   new_taken =
       every_append (takes 0) (not_named network live_records) load_records (stay_every (takes 0) network live_records live_as.taken_all) (any_all network load_records load_as_lem.taken_all)
 
-  module _ (r : Closed) (live' loading' : List ℕ) (c : Closes network extent load live loading r live' loading') where
+  -- the extent of the store of the new set
+  abbrev new_store_extent : Extent
+  new_store_extent = record { used = length (flatten new); records = length new }
+
+  extent_lem : new_extent network extent live load loading ≡ new_store_extent
+  extent_lem = λ i. record { used = length (new_bytes_lem i); records = new_records_lem i }
+
+  module _ (r : Option Extent) (live' loading' : List ℕ) (c : Closes network extent load live loading r live' loading') where
     -- whether it closed
-    pub done_is : r.done ≡ new_fits network extent live load loading
-    done_is = c.done ∙ closes_is
+    pub done_is : is_some r ≡ new_fits network extent live load loading
+    done_is = ap (λ (o : Option Extent). is_some o) c.answer ∙ told (closes network extent live load loading) ∙ closes_is
+      where
+        told : (t : Bool) → is_some (cond t (Some (new_extent network extent live load loading)) None) ≡ t
+        told true = refl
+        told false = refl
 
     -- the live store is that of the new set, or stays
     pub live_is : live' ≡ cond (new_fits network extent live load loading) (store_of (length live) (new_in network extent live load loading)) live
@@ -117,16 +128,21 @@ module _ (network : ℕ) (extent : Extent) (live : List ℕ) (load : Load) (load
     abbrev pub records_after : List (List ℕ)
     records_after = cond (new_fits network extent live load loading) new live_records
 
-    -- the live store is sound, by the numbers that the call answers
-    pub live_sound_as : SoundAs 0 r.used r.records live' records_after
+    -- the live store's extent after it
+    abbrev pub after : Extent
+    after = extent_after extent r
+
+    -- the live store is sound, by that extent
+    pub live_sound_as : SoundAs 0 after.used after.records live' records_after
     live_sound_as =
         cases (not load.over && fits (length live) new) refl live_is
-        (c.used ∙ rw (closes_is, new_bytes_lem) refl) (c.records ∙ rw (closes_is, new_records_lem) refl)
+        (c.answer ∙ rw (closes_is, extent_lem) refl)
       where
         cases : (t : Bool) → (not load.over && fits (length live) new) ≡ t → live' ≡ cond t (store_of (length live) new) live
-            → r.used ≡ cond t (length (flatten new)) extent.used → r.records ≡ cond t (length new) extent.records
-            → SoundAs 0 r.used r.records live' (cond t new live_records)
-        cases true e l u n =
+            → r ≡ cond t (Some new_store_extent) None → SoundAs 0 after.used after.records live' (cond t new live_records)
+        cases true e l a =
+            let u : after.used ≡ length (flatten new) = ap (λ (o : Option Extent). (extent_after extent o).used) a in
+            let n : after.records ≡ length new = ap (λ (o : Option Extent). (extent_after extent o).records) a in
             let f = and_right (not load.over) (fits (length live) new) e in
             let k : length live' ≡ length live = ap length l ∙ store_long (length live) new (fits_bytes (length live) new f) in
             record {
@@ -137,7 +153,9 @@ module _ (network : ℕ) (extent : Extent) (live : List ℕ) (load : Load) (load
               fit = ap (λ (m : ℕ). fits m new) k ∙ f;
               all = new_all;
             }
-        cases false e l u n =
+        cases false e l a =
+            let u : after.used ≡ extent.used = ap (λ (o : Option Extent). (extent_after extent o).used) a in
+            let n : after.records ≡ extent.records = ap (λ (o : Option Extent). (extent_after extent o).records) a in
             let s = live_as in
             let k : length live' ≡ length live = ap length l in
             record {
@@ -149,12 +167,12 @@ module _ (network : ℕ) (extent : Extent) (live : List ℕ) (load : Load) (load
               all = s.all;
             }
 
-    pub closed_sound_lem : sound_store 0 r.used r.records live' ≡ true
-    closed_sound_lem = as_sound 0 r.used r.records live' records_after live_sound_as
+    pub closed_sound_lem : sound_store 0 after.used after.records live' ≡ true
+    closed_sound_lem = as_sound 0 after.used after.records live' records_after live_sound_as
 
     -- and its records are the new set, or those of before
-    pub closed_records : recs (take r.used live') ≡ cond (new_fits network extent live load loading) (new_in network extent live load loading) (recs (take extent.used live))
-    closed_records = sound_recs 0 r.used r.records live' records_after live_sound_as
+    pub closed_records : recs (take after.used live') ≡ cond (new_fits network extent live load loading) (new_in network extent live load loading) (recs (take extent.used live))
+    closed_records = sound_recs 0 after.used after.records live' records_after live_sound_as
 
     -- the loading store is sound for the next load, for whatever network
     pub emptied_sound : (next : ℕ) → sound_store next 0 0 loading' ≡ true

@@ -2,9 +2,9 @@
 use mathlib.Core.Path.{◌≡◌, sym, ◌∙◌}
 use mathlib.Core.List.{List}
 use Prim.Native.Nat.{ℕ}
+use Rattle.std.specs.Prelude.{Option}
 use Rattle.tables.specs.declared.Extent.{Extent}
 use Rattle.tables.specs.declared.Load.{Load}
-use Rattle.tables.specs.declared.Closed.{Closed}
 use Rattle.tables.specs.Loading.{Adds}
 use Rattle.tables.specs.Closing.{Closes, new_versions}
 
@@ -13,13 +13,9 @@ pub add_block_one : (network : ℕ) (load : Load) (block store : List ℕ) (r s 
 add_block_one network load block store r s o o' g h = (g.load' ∙ sym h.load', g.store' ∙ sym h.store')
 
 -- the answer and both stores
-pub close_load_one : (network : ℕ) (extent : Extent) (load : Load) (live loading : List ℕ) (r s : Closed) (a b a' b' : List ℕ)
+pub close_load_one : (network : ℕ) (extent : Extent) (load : Load) (live loading : List ℕ) (r s : Option Extent) (a b a' b' : List ℕ)
     → Closes network extent load live loading r a b → Closes network extent load live loading s a' b' → (r ≡ s) × (a ≡ a') × (b ≡ b')
-close_load_one network extent load live loading r s a b a' b' g h =
-    let d = g.done ∙ sym h.done in
-    let u = g.used ∙ sym h.used in
-    let n = g.records ∙ sym h.records in
-    ((λ i. record { done = d i; used = u i; records = n i }), g.store ∙ sym h.store, g.zeroed ∙ sym h.zeroed)
+close_load_one network extent load live loading r s a b a' b' g h = (g.answer ∙ sym h.answer, g.store ∙ sym h.store, g.zeroed ∙ sym h.zeroed)
 
 pub versions_after_one : (network : ℕ) (version versions r s : List ℕ) → r ≡ new_versions network version versions → s ≡ new_versions network version versions → r ≡ s
 versions_after_one network version versions r s e f = e ∙ sym f

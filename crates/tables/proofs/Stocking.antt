@@ -1,56 +1,49 @@
 -- The laws of adding to a store, record by record.
 use mathlib.Core.Path.{◌≡◌, refl, sym, ap, ◌∙◌}
 use mathlib.Core.Bool.{Bool, true, false}
-use mathlib.Core.List.{List}
-use Prim.Native.Nat.{ℕ, ◌+◌, ◌-◌, ◌<◌}
-use native.Mathlib.Omega.{arith}
-use lib.ListN.{length, take, drop, drop_of_length-le}
-use Rattle.answer.specs.Pieces.{pieces_from}
-use Rattle.answer.proofs.Pieces.{piece_more, piece_none}
-use Rattle.records.specs.declared.Found.{Found}
-use Rattle.records.specs.Record.{record_in, found_in, recs, takes_as, takes}
-use Rattle.records.proofs.Records.{record_le, size_is, found_takes}
+use mathlib.Core.List.{List, [], ◌∷◌}
+use Prim.Native.Nat.{ℕ, ◌≤◌}
+use lib.ListN.{length}
+use lib.Dec.{leb}
+use borrow.Author.Tests.{leb-true}
+use Rattle.records.specs.declared.record.Record.{Record}
+use Rattle.records.specs.Record.{record_as, recs, takes_as, takes, good_block, count_good}
 use Rattle.tables.specs.declared.Load.{Load}
 use Rattle.tables.specs.Loading.{Stocked, stock_one, stock_all, taken}
 use Rattle.tables.specs.Steps.{Stocks, stocked_all, StocksAll}
-use Rattle.answer.proofs.Parts.{piece_part}
-
--- ---- a walk over the records of a block: what is still to be added to a store
+use Rattle.answer.proofs.Parts.{and_left}
 
 abbrev pub both : Load → List ℕ → Stocked
 both load bytes = record { load = load; bytes = bytes }
 
-abbrev pub Left : ℕ → List ℕ → ℕ → Load → List ℕ → Stocked
-Left w block at load bytes = stock_all (both load bytes) (taken w (recs (drop at block)))
-
 is_both : (load : Load) (rec bytes : List ℕ) (r : Load) (bytes' : List ℕ) → Stocks load rec bytes r bytes' → stock_one (both load bytes) rec ≡ both r bytes'
 is_both load rec bytes r bytes' k = sym (λ i. both (k.load' i) (k.store' i))
 
-module _ (w : ℕ) (block : List ℕ) (at : ℕ) (rec : Found) (f : rec ≡ found_in (drop at block)) (load : Load) (bytes : List ℕ) where
-  pub left_none : rec.size ≡ 0 → Left w block at load bytes ≡ both load bytes
+-- what the record that was told says of its bytes
+pub taken_by : (w : ℕ) (piece : List ℕ) (r : Record) (t : Bool) → r ≡ record_as piece → t ≡ takes_as w r.kind r.network → takes w piece ≡ t
+unfolding takes
+taken_by w piece r t e f = sym (f ∙ ap (λ (q : Record). takes_as w q.kind q.network) e)
+
+-- ---- a walk over records: `left` of them, added to the store as it is, give `all` added to it as it was
+
+module _ (w : ℕ) (s : Stocked) (all : List ℕ) (load : Load) (bytes : List ℕ) (left : List ℕ) (so : stocked_all w s all ≡ stocked_all w (both load bytes) left) where
+  pub left_none : recs left ≡ [] → stocked_all w s all ≡ both load bytes
   unfolding stock_all taken
-  left_none z = rw (piece_none record_in record_le block at rec.size (size_is block at rec f) z) refl
+  left_none e = so ∙ rw e refl
 
-  module _ (some : rec.size ≡ 0 → ⊥) where
-    -- whether it is taken
-    told : (t : Bool) → t ≡ takes_as w rec.kind rec.network → takes w (take rec.size (drop at block)) ≡ t
-    told t e = sym (e ∙ found_takes block at rec f some w)
-
-    pub left_skip : false ≡ takes_as w rec.kind rec.network → Left w block at load bytes ≡ Left w block (at + rec.size) load bytes
+  module _ (piece after : List ℕ) (step : recs left ≡ piece ∷ recs after) where
+    pub left_skip : takes w piece ≡ false → stocked_all w s all ≡ stocked_all w (both load bytes) after
     unfolding taken
-    left_skip e = rw (piece_more record_in record_le block at rec.size (size_is block at rec f) some, told false e) refl
+    left_skip e = so ∙ rw (step, e) refl
 
-    pub left_more : true ≡ takes_as w rec.kind rec.network → (r : Load) (bytes' : List ℕ) → Stocks load (take (at + rec.size - at) (drop at block)) bytes r bytes'
-        → Left w block at load bytes ≡ Left w block (at + rec.size) r bytes'
+    pub left_more : takes w piece ≡ true → (r : Load) (bytes' : List ℕ) → Stocks load piece bytes r bytes' → stocked_all w s all ≡ stocked_all w (both r bytes') after
     unfolding taken stock_all
-    left_more e r bytes' k =
-        let g : Left w block at load bytes ≡ stock_all (stock_one (both load bytes) (take (at + rec.size - at) (drop at block))) (taken w (recs (drop (at + rec.size) block))) =
-        rw (piece_more record_in record_le block at rec.size (size_is block at rec f) some, told true e, piece_part block at rec.size) refl in
-        g ∙ ap (λ (s : Stocked). stock_all s (taken w (recs (drop (at + rec.size) block)))) (is_both load (take (at + rec.size - at) (drop at block)) bytes r bytes' k)
+    left_more e r bytes' k = so ∙ rw (step, e) (ap (λ (t : Stocked). stock_all t (taken w (recs after))) (is_both load piece bytes r bytes' k))
 
-pub adds_by : (w : ℕ) (load : Load) (block bytes : List ℕ) (r : Load) (bytes' : List ℕ) → stocked_all w (both load bytes) block ≡ both r bytes' → StocksAll w load block bytes r bytes'
-adds_by w load block bytes r bytes' e = record { load' = sym (ap (λ (s : Stocked). s.load) e); store' = sym (ap (λ (s : Stocked). s.bytes) e) }
+pub adds_by : (w : ℕ) (load : Load) (xs bytes : List ℕ) (r : Load) (bytes' : List ℕ) → stocked_all w (both load bytes) xs ≡ both r bytes' → StocksAll w load xs bytes r bytes'
+adds_by w load xs bytes r bytes' e = record { load' = sym (ap (λ (s : Stocked). s.load) e); store' = sym (ap (λ (s : Stocked). s.bytes) e) }
 
-pub adds_short : (w : ℕ) (load : Load) (block bytes : List ℕ) → length block < 2 → StocksAll w load block bytes load bytes
-unfolding taken stock_all pieces_from
-adds_short w load block bytes h = adds_by w load block bytes load bytes (rw (drop_of_length-le block {i = 2} (omega arith)) refl)
+-- a good block has its count
+pub good_long : (block : List ℕ) → good_block block ≡ true → 2 ≤ length block
+unfolding good_block
+good_long block e = leb-true 2 (length block) (and_left (leb 2 (length block)) _ (and_left (count_good block) _ e))

@@ -1,5 +1,5 @@
 -- The terms of the theorems on loads, and small cases of them.
-use Rattle.std.specs.Prelude.{◌≡◌, Bool, true, false, not, ◌&&◌, ℕ, length, take}
+use Rattle.std.specs.Prelude.{◌≡◌, Bool, true, false, not, ◌&&◌, ℕ, length, take, Option, unwrap_or}
 use mathlib.Core.List.{List, [], ◌∷◌, flatten}
 use Rattle.records.specs.Record.{recs}
 use Rattle.records.specs.Store.{store_of, fits}
@@ -24,6 +24,10 @@ new_in network extent live load loading = new_set network (recs (take extent.use
 -- the load is not over, and that set is within the limits
 abbrev pub new_fits : ℕ → Extent → List ℕ → Load → List ℕ → Bool
 new_fits network extent live load loading = not load.over && fits (length live) (new_in network extent live load loading)
+
+-- the live store's extent after a load: what is told, or, where none is, that of before
+abbrev pub extent_after : Extent → Option Extent → Extent
+extent_after extent r = unwrap_or r extent
 
 -- ---- small cases
 

@@ -1,12 +1,11 @@
 -- Closing a load: the new set of live records, and the versions after it (scope paper, section Commands, TLE).
-use Rattle.std.specs.Prelude.{ℕ, ◌+◌, ◌-◌, ◌*◌, ◌≡◌, Bool, not, ◌&&◌, cond, length, take, drop, replicate, leb, eqb}
+use Rattle.std.specs.Prelude.{ℕ, ◌+◌, ◌-◌, ◌*◌, ◌≡◌, Bool, not, ◌&&◌, cond, length, take, drop, replicate, leb, eqb, Option, Some, None}
 use mathlib.Core.List.{List, [], ◌∷◌, ◌++◌, flatten}
 use Rattle.answer.specs.Laid.{pasted}
 use Rattle.records.specs.Record.{recs, is_named}
 use Rattle.records.specs.Store.{zeros}
 use Rattle.tables.specs.declared.Extent.{Extent}
 use Rattle.tables.specs.declared.Load.{Load}
-use Rattle.tables.specs.declared.Closed.{Closed}
 
 -- ---- the new set
 
@@ -38,12 +37,14 @@ closes network extent live load loading =
     not load.over
     && (leb (length (new_bytes network extent live load loading)) (length live) && leb (new_records network extent live load) 512)
 
--- THE PROMISE of closing a load: the new set becomes the live one, or, where it passes a limit, the live store stays; the loading store is
--- all zero either way
-pub record Closes (network : ℕ) (extent : Extent) (load : Load) (live loading : List ℕ) (r : Closed) (live' loading' : List ℕ) : Type 0 where
-  pub done : r.done ≡ closes network extent live load loading
-  pub used : r.used ≡ cond (closes network extent live load loading) (length (new_bytes network extent live load loading)) extent.used
-  pub records : r.records ≡ cond (closes network extent live load loading) (new_records network extent live load) extent.records
+-- the live store's extent with the new set
+abbrev pub new_extent : ℕ → Extent → List ℕ → Load → List ℕ → Extent
+new_extent network extent live load loading = record { used = length (new_bytes network extent live load loading); records = new_records network extent live load }
+
+-- THE PROMISE of closing a load: the new set becomes the live one, and its extent is told, or, where it passes a limit, the live store stays,
+-- and none is told; the loading store is all zero either way
+pub record Closes (network : ℕ) (extent : Extent) (load : Load) (live loading : List ℕ) (r : Option Extent) (live' loading' : List ℕ) : Type 0 where
+  pub answer : r ≡ cond (closes network extent live load loading) (Some (new_extent network extent live load loading)) None
   pub store : live' ≡ cond (closes network extent live load loading) (new_bytes network extent live load loading ++ zeros (length live - length (new_bytes network extent live load loading))) live
   pub zeroed : loading' ≡ zeros (length loading)
 

@@ -1,30 +1,25 @@
 -- What the private functions come to. No public promise cites it, and no reader has to believe it.
-use Rattle.std.specs.Prelude.{ℕ, ◌+◌, ◌-◌, ◌≡◌, Bool, true, false, not, ◌&&◌, length, take, drop, leb}
+use Rattle.std.specs.Prelude.{ℕ, ◌+◌, ◌-◌, ◌≡◌, Bool, not, ◌&&◌, length, take, drop, leb}
 use mathlib.Core.List.{List, ◌++◌, flatten}
-use Rattle.records.specs.Record.{recs, records_of}
+use Rattle.records.specs.Record.{recs}
 use Rattle.records.specs.Store.{zeros}
 use Rattle.tables.specs.declared.Extent.{Extent}
 use Rattle.tables.specs.declared.Load.{Load}
-use Rattle.tables.specs.declared.Closed.{Closed}
 use Rattle.tables.specs.Loading.{taken, Stocked, stock_one, stock_all}
 use Rattle.tables.specs.Closing.{not_named}
-
--- the load, marked as over
-abbrev pub over_load : Load → Load
-over_load load = record { used = load.used; records = load.records; over = true }
 
 -- one record was added to a load's store, or marked it as over
 pub record Stocks (load : Load) (rec bytes : List ℕ) (r : Load) (bytes' : List ℕ) : Type 0 where
   pub load' : r ≡ (stock_one (record { load = load; bytes = bytes }) rec).load
   pub store' : bytes' ≡ (stock_one (record { load = load; bytes = bytes }) rec).bytes
 
--- the records of a block that the load takes were added, whether the block is good or not
+-- those of the records of some bytes that the load takes were added
 abbrev pub stocked_all : ℕ → Stocked → List ℕ → Stocked
-stocked_all network s block = stock_all s (taken network (records_of block))
+stocked_all network s xs = stock_all s (taken network (recs xs))
 
-pub record StocksAll (network : ℕ) (load : Load) (block bytes : List ℕ) (r : Load) (bytes' : List ℕ) : Type 0 where
-  pub load' : r ≡ (stocked_all network (record { load = load; bytes = bytes }) block).load
-  pub store' : bytes' ≡ (stocked_all network (record { load = load; bytes = bytes }) block).bytes
+pub record StocksAll (network : ℕ) (load : Load) (xs bytes : List ℕ) (r : Load) (bytes' : List ℕ) : Type 0 where
+  pub load' : r ≡ (stocked_all network (record { load = load; bytes = bytes }) xs).load
+  pub store' : bytes' ≡ (stocked_all network (record { load = load; bytes = bytes }) xs).bytes
 
 -- the bytes of the records that stay
 unfoldable pub staying_bytes : ℕ → List ℕ → List ℕ
@@ -53,7 +48,3 @@ pub record Replaces (network used : ℕ) (bytes live : List ℕ) (r : ℕ) (live
 -- what stays, with n bytes and the load's records more, passes no limit
 unfoldable pub limits_kept : ℕ → Extent → ℕ → Load → Bool
 limits_kept size stays n load = not load.over && (leb (stays.used + n) size && leb (stays.records + load.records) 512)
-
--- the answer where the live store stays
-abbrev pub not_closed : Extent → Closed
-not_closed extent = record { done = false; used = extent.used; records = extent.records }

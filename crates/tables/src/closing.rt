@@ -1,72 +1,55 @@
 // Closing a load: the new set takes the live store's place, or the live store stays (scope paper, section Commands, TLE).
-ghost use Rattle.std.specs.Prelude.{◌≡◌, ◌+◌, ◌≤◌, min, length, take};
+ghost use Rattle.std.specs.Prelude.{◌≡◌, ◌+◌, ◌≤◌, length, take};
 ghost use Rattle.records.specs.Store.{zeros};
 ghost use Rattle.tables.specs.Closing.{Closes};
-ghost use Rattle.tables.specs.Steps.{Stays, Compacts, Replaces, staying_bytes, moved, limits_kept, not_closed};
+ghost use Rattle.tables.specs.Steps.{Stays, Compacts, Replaces, staying_bytes, moved, limits_kept};
 
-use crate::{Closed, Extent, Load};
-use records::{is_named, record_at, zero_store};
+use crate::{Extent, Load};
+use answer::walk::pieces_of;
+use records::{Record, record_at, zero_store};
 
 // How many bytes and records of `bytes` stay when a load for `network` closes.
-#[tactic(auto, using(records::proofs::Records::found_ends, crate::proofs::Staying::stay_end, crate::proofs::Staying::count_end, crate::proofs::Staying::stay_named, crate::proofs::Staying::count_named, crate::proofs::Staying::long_more, crate::proofs::Staying::count_more))]
+#[tactic(auto)]
 fn staying(bytes: &[u8], network: u8) -> Extent
     ensures { Stays network bytes.now result }
 {
     let mut used = 0;
     let mut records = 0;
-    let mut at = 0;
-    loop {
-        let rec = record_at(bytes, at);
-        let size = rec.size;
-        if size == 0 {
-            break;
-        }
-        let end = at + size;
-        if !is_named(rec, network) {
-            used += size;
+    for piece in pieces_of::<Record>(bytes) {
+        if !Record::of(piece).is_named(network) {
+            used += piece.len();
             records += 1;
         }
-        at = end;
     }
     Extent { used, records }
 }
 
 // Moves the `len` bytes at `from` down to `to`.
-#[tactic(auto, using(crate::proofs::Moves::move_more, crate::proofs::Moves::move_same))]
+#[tactic(auto, using(crate::proofs::Moves::move_same))]
 fn move_down(s: &mut [u8], to: usize, from: usize, len: usize)
     requires { (to ≤ from) × (from + len ≤ length s.old) }
     ensures { s.new ≡ moved s.old to from len }
 {
-    if to == from {
-        return;
-    }
-    let mut j = 0;
-    while j < len {
-        s[to + j] = s[from + j];
-        j += 1;
+    if to != from {
+        s.copy_within(from..from + len, to);
     }
 }
 
-// Moves the records of the first `used` bytes that stay down to the start, in order, and tells where they end.
-#[tactic(auto, using(crate::proofs::Staying::found_part, crate::proofs::Staying::pack_within, crate::proofs::Staying::pack_skip, crate::proofs::Staying::pack_keep, crate::proofs::Staying::pack_done))]
+// Moves the records of the first `used` bytes that stay down to the start, in order, and tells where they end. It goes by position,
+// since it writes into the bytes that it walks.
+#[tactic(auto, using(crate::proofs::Staying::pack_within, crate::proofs::Staying::pack_skip, crate::proofs::Staying::pack_keep, crate::proofs::Staying::pack_done))]
 fn compact(live: &mut [u8], used: usize, network: u8) -> usize
     requires { used ≤ length live.old }
     ensures { Compacts network used live.old result live.new }
 {
     let mut from = 0;
     let mut to = 0;
-    loop {
-        let rec = record_at(&live[0..used], from);
-        let size = rec.size;
-        if size == 0 {
-            break;
+    while let Some(record) = record_at(&live[..used], from) {
+        if !record.is_named(network) {
+            move_down(live, to, from, record.size);
+            to += record.size;
         }
-        let end = from + size;
-        if !is_named(rec, network) {
-            move_down(live, to, from, size);
-            to += size;
-        }
-        from = end;
+        from += record.size;
     }
     to
 }
@@ -76,37 +59,9 @@ fn compact(live: &mut [u8], used: usize, network: u8) -> usize
 fn keeps_limits(size: usize, stays: Extent, n: usize, load: Load) -> bool
     ensures { result ≡ limits_kept size stays n load }
 {
-    if load.over {
-        return false;
-    }
-    if size < stays.used {
-        return false;
-    }
-    if size - stays.used < n {
-        return false;
-    }
-    if 512 < stays.records {
-        return false;
-    }
-    load.records <= 512 - stays.records
-}
-
-// The smaller of two numbers.
-fn smaller(a: usize, b: usize) -> usize
-    ensures { result ≡ min a b }
-{
-    if a <= b { a } else { b }
-}
-
-// The answer where the live store stays as it is.
-fn not_closed(extent: Extent) -> Closed
-    ensures { result ≡ not_closed extent }
-{
-    Closed {
-        done: false,
-        used: extent.used,
-        records: extent.records,
-    }
+    !load.over
+        && (stays.used <= size && n <= size - stays.used)
+        && (stays.records <= 512 && load.records <= 512 - stays.records)
 }
 
 // Makes what stays and then `bytes` the live store, with zeros after them.
@@ -121,32 +76,38 @@ fn replace(live: &mut [u8], used: usize, network: u8, bytes: &[u8]) -> usize
 }
 
 // Makes the new set the live one where it passes no limit. Nothing is touched before its size is known.
-#[tactic(auto, using(crate::proofs::Closings::stays_so, crate::proofs::Closings::has_place, crate::proofs::Closings::few, crate::proofs::Closings::made))]
-fn make_live(live: &mut [u8], loading: &[u8], extent: Extent, load: Load, network: u8) -> Closed
+#[tactic(auto, using(crate::proofs::Closings::has_place, crate::proofs::Closings::few))]
+fn make_live(
+    live: &mut [u8],
+    loading: &[u8],
+    extent: Extent,
+    load: Load,
+    network: u8,
+) -> Option<Extent>
     ensures { Closes network extent load live.old loading.now result live.new (zeros (length loading.now)) }
 {
-    let used = smaller(extent.used, live.len());
-    let n = smaller(load.used, loading.len());
-    let stays = staying(&live[0..used], network);
+    let used = extent.used.min(live.len());
+    let n = load.used.min(loading.len());
+    let stays = staying(&live[..used], network);
     if !keeps_limits(live.len(), stays, n, load) {
-        return not_closed(extent);
+        return None;
     }
-    let end = replace(live, used, network, &loading[0..n]);
-    Closed {
-        done: true,
+    let end = replace(live, used, network, &loading[..n]);
+    Some(Extent {
         used: end,
         records: stays.records + load.records,
-    }
+    })
 }
 
-// Makes the new set the live one where it passes no limit, and zeroes the loading store.
+// Makes the new set the live one where it passes no limit, and zeroes the loading store. Tells the extent of the new live store, and
+// none where the live store stays.
 pub fn close_load(
     live: &mut [u8],
     loading: &mut [u8],
     extent: Extent,
     load: Load,
     network: u8,
-) -> Closed
+) -> Option<Extent>
     ensures { Closes network extent load live.old loading.old result live.new loading.new }
 {
     let closed = make_live(live, loading, extent, load, network);

@@ -11,24 +11,16 @@ pub use closing::close_load;
 pub use version::versions_after;
 
 // How many bytes of a store its records take, and how many they are.
-#[derive(Clone, Copy)]
+#[derive(Clone, Copy, Debug, PartialEq, Eq)]
 pub struct Extent {
     pub used: usize,
     pub records: usize,
 }
 
 // The same of an open load's store, and whether a record did not fit.
-#[derive(Clone, Copy)]
+#[derive(Clone, Copy, Debug, PartialEq, Eq)]
 pub struct Load {
     pub used: usize,
     pub records: usize,
     pub over: bool,
-}
-
-// Whether the new set became the live one, and the live store's extent then.
-#[derive(Clone, Copy)]
-pub struct Closed {
-    pub done: bool,
-    pub used: usize,
-    pub records: usize,
 }

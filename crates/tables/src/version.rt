@@ -9,10 +9,8 @@ fn put_everywhere(versions: &mut [u8], version: &[u8])
     requires { (length versions.old ≡ 1000) × (length version.now ≡ 10) }
     ensures { versions.new ≡ flatten (replicate 100 version.now) }
 {
-    let mut n = 0usize;
-    while n < 100 {
+    for n in 0..100usize {
         answer::put(versions, n * 10, version);
-        n += 1;
     }
 }
 

@@ -6,9 +6,9 @@ use Rattle.tables.specs.Steps.{staying_bytes}
 use Rattle.tables.proofs.Staying.{Packing}
 use Rattle.tables.proofs.closing.compact.Given as goal
 
-abbrev pub invariant-loop-rec : goal.invariant-loop-rec
-invariant-loop-rec l =
+abbrev pub invariant-loop-record : goal.invariant-loop-record
+invariant-loop-record l =
     (l.to ≤ l.from) × (l.from ≤ l.used) × (length l.live ≡ length l.initial.live) × Packing (staying_bytes l.network (take l.used l.initial.live)) l.network l.used l.live l.from l.to
 
-abbrev pub decreases-loop-rec : goal.decreases-loop-rec
-decreases-loop-rec l = l.used - l.from
+abbrev pub decreases-loop-record : goal.decreases-loop-record
+decreases-loop-record l = l.used - l.from

@@ -1,16 +1,14 @@
--- `tables::closing::staying` meets its contract: with what stays from `at` on, it is counted whole.
-use Prim.Native.Nat.{◌+◌, ◌≤◌, ◌-◌}
+-- `tables::closing::staying` meets its contract: with what stays of the records that are left, it is counted whole.
 use mathlib.Core.Path.{◌≡◌}
-use lib.ListN.{length, drop}
+use Prim.Native.Nat.{◌+◌}
+use lib.ListN.{length}
 use Rattle.tables.specs.Steps.{staying_bytes}
 use Rattle.tables.proofs.Staying.{staying_count}
 use Rattle.tables.proofs.closing.staying.Given as goal
 
-abbrev pub invariant-loop-rec : goal.invariant-loop-rec
-invariant-loop-rec l =
-    (l.at ≤ length l.bytes) × (l.used ≤ l.at) × (l.records ≤ l.at)
-    × (length (staying_bytes l.network l.bytes) ≡ l.used + length (staying_bytes l.network (drop l.at l.bytes)))
-    × (staying_count l.network l.bytes ≡ l.records + staying_count l.network (drop l.at l.bytes))
-
-abbrev pub decreases-loop-rec : goal.decreases-loop-rec
-decreases-loop-rec l = length l.bytes - l.at
+abbrev pub invariant-loop-piece : goal.invariant-loop-piece
+invariant-loop-piece l =
+    (goal.iterator-loop-piece).can_next l.piece-iterator
+    × (goal.iterator-loop-piece).is_finite l.piece-iterator
+    × (l.used + length (staying_bytes l.network l.piece-iterator.rest.now) ≡ length (staying_bytes l.network l.bytes))
+    × (l.records + staying_count l.network l.piece-iterator.rest.now ≡ staying_count l.network l.bytes)

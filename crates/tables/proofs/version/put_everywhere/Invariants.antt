@@ -1,5 +1,5 @@
 -- `tables::version::put_everywhere` meets its contract: the first `n` places hold the version.
-use Prim.Native.Nat.{◌*◌, ◌≤◌, ◌-◌}
+use Prim.Native.Nat.{◌*◌}
 use mathlib.Core.Path.{◌≡◌}
 use mathlib.Core.List.{◌++◌}
 use lib.ListN.{drop}
@@ -7,7 +7,4 @@ use Rattle.tables.proofs.Versions.{many}
 use Rattle.tables.proofs.version.put_everywhere.Given as goal
 
 abbrev pub invariant-loop-n : goal.invariant-loop-n
-invariant-loop-n l = (l.n ≤ 100) × (l.versions ≡ many l.n l.version ++ drop (l.n * 10) l.initial.versions)
-
-abbrev pub decreases-loop-n : goal.decreases-loop-n
-decreases-loop-n l = 100 - l.n
+invariant-loop-n l = l.versions ≡ many l.n l.version ++ drop (l.n * 10) l.initial.versions

@@ -1,4 +1,3 @@
--- `Found` has the cases of what a search comes to, `Whole` a buffer that is put over whole. `Promises`: one result of each call with flags or an image.
-pub mod Found
+-- `Whole` has a buffer that is put over whole. `Promises`: one result of each call with numbers, flags or an image.
 pub mod Whole
 pub mod Promises

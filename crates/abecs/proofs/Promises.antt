@@ -6,21 +6,32 @@ use mathlib.Core.Bool.{true, false}
 use mathlib.Core.List.{List, []}
 use Prim.Native.Nat.{ℕ, zero, suc, ◌≤◌}
 use lib.ListN.{length}
+use Rattle.answer.specs.Answers.{Output}
+use Rattle.objects.specs.Object.{read_of}
 use Rattle.tables.specs.declared.Extent.{Extent}
 use Rattle.tables.specs.declared.Load.{Load}
 use Rattle.state.specs.Sound.{both_sized, refusal_of}
 use Rattle.device.specs.Promise.{Left, start_refusal}
 use Rattle.image.specs.declared.Image.{Image}
 use Rattle.image.specs.declared.Taken.{Taken}
-use Rattle.image.specs.declared.Imaged.{Imaged}
 use Rattle.image.specs.Image.{is_image}
-use Rattle.image.specs.ImagePromise.{state_in, ImageAnswersBy, ImageAnswers, started_left, StartsImage, ReceivesImage, TimesOutImage, RestartsImage}
+use Rattle.image.specs.ImagePromise.{Imaged, state_in, ImageAnswersBy, ImageAnswers, started_left, StartsImage, ReceivesImage, TimesOutImage, RestartsImage}
 use Rattle.image.specs.Claims.{Untouched}
 use Rattle.image.proofs.Back.{bad_is_three}
 use Rattle.image.proofs.Promises.{image_answers_one}
-use Rattle.abecs.specs.declared.LoadOf.{LoadOf}
-use Rattle.abecs.specs.declared.ClosedOf.{ClosedOf}
+use Rattle.abecs.specs.declared.numbered.LoadOf.{LoadOf}
+use Rattle.abecs.specs.declared.numbered.ClosedOf.{ClosedOf}
+use Rattle.abecs.specs.declared.numbered.Answer.{Answer}
+use Rattle.abecs.specs.declared.numbered.ObjectOf.{ObjectOf}
+use Rattle.abecs.specs.Numbered.{Gives, object_as}
 use Rattle.abecs.specs.Flags.{AddsOf, ClosesOf}
+
+-- two answers of a codec call that its promise allows are one, answer and buffer
+pub gives_one : (output : Output) (out : List ℕ) (r s : Answer) (o o' : List ℕ) → Gives output out r o → Gives output out s o' → (r ≡ s) × (o ≡ o')
+gives_one output out r s o o' g h = (g.answer ∙ sym h.answer, g.bytes ∙ sym h.bytes)
+
+pub read_object_one : (input : List ℕ) (r s : ObjectOf) → r ≡ object_as (read_of input) → s ≡ object_as (read_of input) → r ≡ s
+read_object_one input r s e f = e ∙ sym f
 
 pub add_block_one : (network : ℕ) (load : Load) (block bytes : List ℕ) (r s : LoadOf) (o o' : List ℕ) → AddsOf network load block bytes r o → AddsOf network load block bytes s o' → (r ≡ s) × (o ≡ o')
 add_block_one network load block bytes r s o o' g h = (g.answer ∙ sym h.answer, g.store ∙ sym h.store)

@@ -7,8 +7,8 @@ use Rattle.tables.specs.declared.Load.{Load}
 use Rattle.tables.specs.Loading.{stocked}
 use Rattle.tables.specs.Closing.{closes, new_bytes, new_records, new_versions}
 use Rattle.image.specs.Image.{flag_of}
-use Rattle.abecs.specs.declared.LoadOf.{LoadOf}
-use Rattle.abecs.specs.declared.ClosedOf.{ClosedOf}
+use Rattle.abecs.specs.declared.numbered.LoadOf.{LoadOf}
+use Rattle.abecs.specs.declared.numbered.ClosedOf.{ClosedOf}
 
 -- the load that two numbers and a flag tell
 abbrev pub load_of : ℕ → ℕ → ℕ → Load
@@ -20,6 +20,9 @@ extent_of used records = record { used = used; records = records }
 -- a load with its flag as a byte
 abbrev pub shown : Load → LoadOf
 shown l = record { used = l.used; records = l.records; over = flag_of l.over }
+
+abbrev pub IsLoadOf : Load → LoadOf → Type 0
+IsLoadOf load l = l ≡ shown load
 
 -- the promise of `tables::add_block`
 pub record AddsOf (network : ℕ) (load : Load) (block bytes : List ℕ) (r : LoadOf) (bytes' : List ℕ) : Type 0 where

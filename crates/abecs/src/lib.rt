@@ -1,8 +1,11 @@
 // The boundary to C and Rust: each public call under a name of its own, with the same promise. A slice crosses as a pointer and a length.
 #![tactic(auto)]
 
+mod numbered;
+
 ghost use Rattle.std.specs.Prelude.{◌≡◌, not, eqb, length};
-ghost use Rattle.answer.specs.Answers.{Gives};
+ghost use Rattle.answer.specs.Answers.{Gives as GivesOutput};
+ghost use Rattle.abecs.specs.Numbered.{Gives, object_as};
 ghost use Rattle.crc16.specs.Crc.{check};
 ghost use Rattle.packet.specs.Packet.{write_packet, read_packet};
 ghost use Rattle.parameters.specs.Finding.{find};
@@ -15,9 +18,9 @@ ghost use Rattle.image.specs.Image.{flag_of};
 ghost use Rattle.image.specs.ImagePromise.{StartsImage, ReceivesImage, TimesOutImage, RestartsImage};
 ghost use Rattle.abecs.specs.Flags.{load_of, extent_of, AddsOf, ClosesOf, versions_of};
 
-use answer::{Answer, refused};
+use answer::Refusal;
 use image::{Image, Taken, flag, receive_image, restart_image, start_image, timeout_image};
-use objects::ObjectRead;
+pub use numbered::{Answer, ClosedOf, LoadOf, ObjectOf};
 use tables::{Extent, Load};
 
 // ---- the device: no enum crosses, so its image is lent, and brought up to date where it stands
@@ -27,9 +30,7 @@ use tables::{Extent, Load};
 pub extern "C" fn abecs_start(image: &mut Image, live: &mut [u8], loading: &mut [u8]) -> Taken
     ensures { StartsImage image.old live.old loading.old (record { image = image.new; answer = result }) live.new loading.new }
 {
-    let next = start_image(*image, live, loading);
-    *image = next.image;
-    next.answer
+    start_image(image, live, loading)
 }
 
 // Takes a piece of the line's bytes, up to the one that completes a reply, or all. Refusals in this order: 1, 2, 3.
@@ -43,9 +44,7 @@ pub extern "C" fn abecs_receive(
 ) -> Taken
     ensures { ReceivesImage image.old piece.now out.old live.old loading.old (record { image = image.new; answer = result }) out.new live.new loading.new }
 {
-    let next = receive_image(*image, piece, out, live, loading);
-    *image = next.image;
-    next.answer
+    receive_image(image, piece, out, live, loading)
 }
 
 // The line was silent for too long: reception goes idle. Refusals: 1, 2, 3.
@@ -58,9 +57,7 @@ pub extern "C" fn abecs_timeout(
 ) -> Taken
     ensures { TimesOutImage image.old out.old live.old loading.old (record { image = image.new; answer = result }) out.new live.new loading.new }
 {
-    let next = timeout_image(*image, out, live, loading);
-    *image = next.image;
-    next.answer
+    timeout_image(image, out, live, loading)
 }
 
 // The board restarted: reception idle, held response forgotten, open load dropped. Refusals: 1, 2, 3.
@@ -73,9 +70,7 @@ pub extern "C" fn abecs_restart(
 ) -> Taken
     ensures { RestartsImage image.old out.old live.old loading.old (record { image = image.new; answer = result }) out.new live.new loading.new }
 {
-    let next = restart_image(*image, out, live, loading);
-    *image = next.image;
-    next.answer
+    restart_image(image, out, live, loading)
 }
 
 // ---- packets
@@ -91,14 +86,14 @@ pub extern "C" fn abecs_check_of(payload: &[u8]) -> u16
 pub extern "C" fn abecs_write_packet(payload: &[u8], out: &mut [u8]) -> Answer
     ensures { Gives (write_packet payload.now) out.old result out.new }
 {
-    packet::write_packet(payload, out)
+    Answer::from(packet::write_packet(payload, out))
 }
 
 #[unsafe(no_mangle)]
 pub extern "C" fn abecs_read_packet(bytes: &[u8], out: &mut [u8]) -> Answer
     ensures { Gives (read_packet bytes.now) out.old result out.new }
 {
-    packet::read_packet(bytes, out)
+    Answer::from(packet::read_packet(bytes, out))
 }
 
 // ---- messages: `response` is 0 for a command, and anything else for a response
@@ -107,7 +102,7 @@ pub extern "C" fn abecs_read_packet(bytes: &[u8], out: &mut [u8]) -> Answer
 pub extern "C" fn abecs_read_message(bytes: &[u8], response: u8, out: &mut [u8]) -> Answer
     ensures { Gives (read_message (not (eqb response 0)) bytes.now) out.old result out.new }
 {
-    message::read_message(bytes, response != 0, out)
+    Answer::from(message::read_message(bytes, response != 0, out))
 }
 
 #[unsafe(no_mangle)]
@@ -119,7 +114,14 @@ pub extern "C" fn abecs_write_message(
 ) -> Answer
     ensures { Gives (write_message head.now (not (eqb response 0)) list.now) out.old result out.new }
 {
-    message::write_message(head, response != 0, list, out)
+    Answer::from(message::write_message(head, response != 0, list, out))
+}
+
+// Gives the part that is found to `out`.
+fn give_parameter(list: &[u8], number: u16, n: usize, out: &mut [u8]) -> Result<usize, Refusal>
+    ensures { GivesOutput (find list.now number n) out.old result out.new }
+{
+    answer::give(parameters::find(list, number, n)?, out)
 }
 
 // No reference can be handed back across the boundary, so the part that is found is given to `out`.
@@ -127,55 +129,33 @@ pub extern "C" fn abecs_write_message(
 pub extern "C" fn abecs_find_parameter(list: &[u8], number: u16, n: usize, out: &mut [u8]) -> Answer
     ensures { Gives (find list.now number n) out.old result out.new }
 {
-    let refusal = parameters::find_refusal(list, number, n);
-    if refusal != 0 {
-        return refused(refusal);
-    }
-    answer::give(parameters::find_parameter(list, number, n), out)
+    Answer::from(give_parameter(list, number, n, out))
 }
 
 // ---- objects
 
 #[unsafe(no_mangle)]
-pub extern "C" fn abecs_read_object(input: &[u8]) -> ObjectRead
-    ensures { result ≡ read_of input.now }
+pub extern "C" fn abecs_read_object(input: &[u8]) -> ObjectOf
+    ensures { result ≡ object_as (read_of input.now) }
 {
-    objects::read_object(input)
+    ObjectOf::from(objects::read_object(input))
 }
 
 #[unsafe(no_mangle)]
 pub extern "C" fn abecs_write_object(tag: &[u8], value: &[u8], out: &mut [u8]) -> Answer
     ensures { Gives (write_object tag.now value.now) out.old result out.new }
 {
-    objects::write_object(tag, value, out)
+    Answer::from(objects::write_object(tag, value, out))
 }
 
 #[unsafe(no_mangle)]
 pub extern "C" fn abecs_pick(tags: &[u8], list: &[u8], out: &mut [u8]) -> Answer
     ensures { Gives (pick tags.now list.now) out.old result out.new }
 {
-    picking::pick(tags, list, out)
+    Answer::from(picking::pick(tags, list, out))
 }
 
 // ---- tables: a flag is 0 or 1; what is handed in as a flag counts as 1 unless it is 0
-
-// The extent of a load's store, with the flag as a byte.
-#[repr(C)]
-#[derive(Clone, Copy)]
-pub struct LoadOf {
-    pub used: usize,
-    pub records: usize,
-    pub over: u8,
-}
-
-// What closing a load answers, with the flag as a byte.
-#[repr(C)]
-#[derive(Clone, Copy)]
-pub struct ClosedOf {
-    pub done: u8,
-    pub used: usize,
-    pub records: usize,
-}
 
 #[unsafe(no_mangle)]
 pub extern "C" fn abecs_check_store(store: &[u8], used: usize, records: usize, network: u8) -> u8
@@ -207,12 +187,7 @@ pub extern "C" fn abecs_add_block(
         records,
         over: over != 0,
     };
-    let grown = tables::add_block(store, load, network, block);
-    LoadOf {
-        used: grown.used,
-        records: grown.records,
-        over: flag(grown.over),
-    }
+    LoadOf::from(tables::add_block(store, load, network, block))
 }
 
 // The live store's extent comes before the load's.
@@ -236,10 +211,11 @@ pub extern "C" fn abecs_close_load(
         over: over != 0,
     };
     let closed = tables::close_load(live, loading, extent, load, network);
+    let Extent { used, records } = closed.unwrap_or(extent);
     ClosedOf {
-        done: flag(closed.done),
-        used: closed.used,
-        records: closed.records,
+        done: flag(closed.is_some()),
+        used,
+        records,
     }
 }
 
@@ -255,13 +231,11 @@ pub extern "C" fn abecs_zero_store(store: &mut [u8])
 pub extern "C" fn abecs_versions_after(versions: &mut [u8], network: u8, version: &[u8])
     ensures { versions.new ≡ versions_of network version.now versions.old }
 {
-    if !((versions.len() == 1000) & (version.len() == 10)) {
+    let Ok(all) = <[u8; 1000]>::try_from(&*versions) else {
         return;
-    }
-    let mut all = [0u8; 1000];
-    let mut ten = [0u8; 10];
-    answer::put(&mut all, 0, versions);
-    answer::put(&mut ten, 0, version);
-    let next = tables::versions_after(all, network, ten);
-    answer::put(versions, 0, &next);
+    };
+    let Ok(ten) = <[u8; 10]>::try_from(version) else {
+        return;
+    };
+    versions.copy_from_slice(&tables::versions_after(all, network, ten));
 }

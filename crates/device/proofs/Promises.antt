@@ -9,12 +9,10 @@ use lib.ListN.{length}
 use Rattle.state.specs.declared.Device.{Device}
 use Rattle.state.specs.State.{State}
 use Rattle.state.specs.Sound.{refusal_of}
-use Rattle.device.specs.declared.Received.{Received}
-use Rattle.device.specs.declared.Started.{Started}
 use Rattle.device.specs.Machine.{Machine, Stepped, Called, step, is_none, one_more, call}
 use Rattle.device.specs.Events.Event.{byte}
 use Rattle.device.specs.Between.{machine_of}
-use Rattle.device.specs.Promise.{Left, after_piece, unless, Gives, Answers, Starts}
+use Rattle.device.specs.Promise.{Started, Received, Left, after_piece, unless, Gives, Answers, Starts}
 use Rattle.device.specs.Claims.{Unchanged}
 
 -- ---- ONE RESULT: two results of a call that its promise allows for one entry are one

@@ -16,16 +16,14 @@ use Rattle.reception.specs.declared.Reception.{Reception}
 use Rattle.reception.specs.declared.Reception.TheVariants.{Idle}
 use Rattle.reception.specs.Reception.{idle}
 use Rattle.execution.specs.declared.Response.{Response}
-use Rattle.execution.specs.declared.Executed.{Executed}
 use Rattle.execution.specs.Stored.{Stored}
-use Rattle.execution.specs.Promise.{responded, Executes}
+use Rattle.execution.specs.Promise.{Executed, responded, Executes}
 use Rattle.execution.proofs.Executing.{responded_short, responded_some}
 use Rattle.state.specs.declared.Held.{Held}
 use Rattle.state.specs.State.{State, device_as, stored_in, can_resend}
-use Rattle.device.specs.declared.Replied.{Replied}
 use Rattle.device.specs.Machine.{good_packet}
 use Rattle.gathering.specs.Gathering.{asks_in}
-use Rattle.device.specs.Steps.{payload_in, Told', tells, with_device, cancelled, resent, refused, ran, completed, replied_in, Says, Does, Sends}
+use Rattle.device.specs.Steps.{Replied, payload_in, Told', tells, with_device, cancelled, resent, refused, ran, completed, replied_in, Says, Does, Sends}
 
 module _ (p : List ℕ) (s : Stored) (r : Executed) (live' loading' : List ℕ) (g : Executes p s r live' loading') where
   length_is : r.response.length ≡ length (responded p s)

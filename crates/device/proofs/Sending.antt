@@ -7,27 +7,26 @@ use lib.ListN.{length, take, drop, set, length-append, length-drop, length-take,
 use lib.Seq.{take_all}
 use borrow.Rule.Slice.PartMut.{put_mid}
 use borrow.Author.Tests.{le-ltb, ne_eqb}
-use Rattle.answer.specs.declared.Answer.{Answer}
-use Rattle.answer.specs.Answers.{Gives, over}
-use Rattle.answer.specs.Answers.Result.{Good}
+use Rattle.std.specs.Prelude.{Result, Ok, Err}
+use Rattle.answer.specs.declared.refusal.Refusal.{Refusal}
+use Rattle.answer.specs.Answers.{Output, Gives, over}
 use Rattle.packet.specs.Packet.{packet_of, write_packet}
 use Rattle.packet.proofs.Stuffing.{stuff_two, packet_long}
-use Rattle.device.specs.Steps.{Sends}
 
 -- the packet of a response fits in 63 bytes
 pub packet_short : (p : List ℕ) → length p ≤ 19 → length (packet_of p) ≤ 63
 packet_short p h = omega (arith, stuff_two p, packet_long p)
 
 -- a response is written whole where there are 63 bytes
-module _ (p out : List ℕ) (r : Answer) (out' : List ℕ) (lo : 1 ≤ length p) (hi : length p ≤ 19) (room : 63 ≤ length out) (g : Gives (write_packet p) out r out') where
-  sent_good : write_packet p ≡ Good (packet_of p)
+module _ (p out : List ℕ) (r : Result ℕ Refusal) (out' : List ℕ) (lo : 1 ≤ length p) (hi : length p ≤ 19) (room : 63 ≤ length out) (g : Gives (write_packet p) out r out') where
+  sent_good : write_packet p ≡ Ok (packet_of p)
   sent_good = simp (ne_eqb (length p) 0 (λ z. omega (arith, z)), le-ltb 2048 (length p) (omega arith))
 
-  pub sent_whole : Sends (packet_of p) out r.length out'
+  pub sent_whole : (r ≡ Ok (length (packet_of p))) × (out' ≡ over (packet_of p) out)
   sent_whole =
-      let q = subst (λ x. Gives x out r out') sent_good g in
+      let q = subst (λ (x : Output). Gives x out r out') sent_good g in
       let f = le-ltb (length out) (length (packet_of p)) (omega (arith, packet_short p hi)) in
-      record { is = ap (λ (a : Answer). a.length) (simp f at q.answer); said = simp f at q.bytes }
+      (simp f at q.answer, simp f at q.bytes)
 
 -- ---- a byte, and then bytes written behind it
 

@@ -16,9 +16,8 @@ use Rattle.state.specs.State.{State, stored_in}
 use Rattle.state.specs.Sound.{held_sound, refusal_of}
 use Rattle.state.specs.Claims.{Arrays}
 use Rattle.state.proofs.Accepting.{accepted, held_short, held_good}
-use Rattle.device.specs.declared.Received.{Received}
 use Rattle.device.specs.Machine.{good_packet}
-use Rattle.device.specs.Promise.{Left, after_piece, unless, Answers}
+use Rattle.device.specs.Promise.{Received, Left, after_piece, unless, Answers}
 use Rattle.device.specs.Steps.{payload_in, held_payload, cancelled, resent, refused, ran, completed, replied_in}
 use Rattle.device.proofs.Replies.{Known}
 use Rattle.device.proofs.Leaving.{line_to, gathered_in, piece_asked, piece_silent}

@@ -7,7 +7,7 @@ use Rattle.execution.specs.Claims.{LegalCore}
 use Rattle.state.specs.State.{State}
 use Rattle.device.specs.Machine.{Holding, Machine}
 use Rattle.device.specs.Machine.Holding.{nothing, holding}
-use Rattle.device.specs.declared.Received.{Received}
+use Rattle.device.specs.Promise.{Received}
 
 -- between packets nothing is spoiled and no payload byte is placed; in a packet at most 2,048 are placed
 abbrev pub LegalLine : Reception → Bool → ℕ → Type 0

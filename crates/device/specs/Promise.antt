@@ -1,13 +1,27 @@
 -- What the device calls promise, for any device, any pieces and any bytes in the lent buffers.
-use Rattle.std.specs.Prelude.{ℕ, zero, suc, ◌≡◌, cond, List, [], length}
+use Rattle.std.specs.Prelude.{ℕ, zero, suc, ◌≡◌, cond, List, [], length, Result, Ok, Err}
 use Rattle.answer.specs.Answers.{over}
+use Rattle.answer.specs.declared.refusal.Refusal.{Refusal}
+use Rattle.answer.specs.Refusals.{number_of}
+use Rattle.state.specs.declared.Device.{Device}
 use Rattle.state.specs.State.{State, state_as}
 use Rattle.state.specs.Sound.{both_sized, refusal_of}
-use Rattle.device.specs.declared.Received.{Received}
-use Rattle.device.specs.declared.Started.{Started}
+use Rattle.device.specs.declared.Taken.{Taken}
 use Rattle.device.specs.Events.{Event}
 use Rattle.device.specs.Machine.{fresh, step, call}
 use Rattle.device.specs.Between.{machine_of, state_of}
+
+-- a call's answer in numbers: the device after it, the refusal or 0, how many bytes it took and how many it wrote
+pub record Received : Type 0 where
+  pub device : Device
+  pub refusal : ℕ
+  pub taken : ℕ
+  pub written : ℕ
+
+-- a refused call took and wrote nothing
+abbrev pub received : Device → Result Taken Refusal → Received
+received device (Ok t) = record { device = device; refusal = 0; taken = t.taken; written = t.written }
+received device (Err e) = record { device = device; refusal = number_of e; taken = 0; written = 0 }
 
 -- what a call leaves, how many bytes it took, and what it replied
 pub record Left : Type 0 where
@@ -51,6 +65,15 @@ start_refusal live loading = cond (both_sized live loading) 0 2
 abbrev pub started_from : ℕ → List ℕ → List ℕ → State
 started_from zero live loading = state_of fresh
 started_from (suc n) live loading = state_as (state_of fresh).device live loading
+
+-- the same of starting: where it is refused, no other device than the fresh one is there to be told
+pub record Started : Type 0 where
+  pub device : Device
+  pub refusal : ℕ
+
+abbrev pub started : Result Device Refusal → Started
+started (Ok device) = record { device = device; refusal = 0 }
+started (Err e) = record { device = (state_of fresh).device; refusal = number_of e }
 
 -- THE PROMISE of starting
 pub record Starts (live loading : List ℕ) (r : Started) (live' loading' : List ℕ) : Type 0 where

@@ -9,7 +9,6 @@ use Rattle.execution.specs.Promise.{executed, responded}
 use Rattle.state.specs.declared.Held.{Held}
 use Rattle.state.specs.declared.Device.{Device}
 use Rattle.state.specs.State.{State, state_as, device_as, stored_in, with_line, with_held, held_as}
-use Rattle.device.specs.declared.Replied.{Replied}
 use Rattle.device.specs.Machine.{good_packet}
 
 abbrev pub payload_in : Device → List ℕ
@@ -21,6 +20,11 @@ held_payload h = take h.response.length h.response.payload
 
 abbrev pub sent_again : Held → Held
 sent_again h = record { response = h.response; times = h.times + 1 }
+
+-- the device after a reply, and how many bytes were written
+pub record Replied : Type 0 where
+  pub device : Device
+  pub written : ℕ
 
 -- a state, and what was replied
 pub record Told' : Type 0 where

@@ -6,167 +6,124 @@ mod replying;
 ghost use Rattle.std.specs.Prelude.{◌≡◌, true, [], ◌≤◌, length};
 ghost use Rattle.state.specs.State.{state_as};
 ghost use Rattle.state.specs.Sound.{is_sized, sound};
+ghost use Rattle.state.specs.Claims.{Arrays};
 ghost use Rattle.device.specs.Machine.{fresh};
 ghost use Rattle.device.specs.Events.Event.{timeout as timeoutEvent, restart as restartEvent};
 ghost use Rattle.device.specs.Between.{state_of};
-ghost use Rattle.device.specs.Promise.{after_piece, after_event, Gives, Answers, Starts};
+ghost use Rattle.device.specs.Promise.{received, started, after_piece, after_event, Gives, Answers, Starts};
 
-use execution::{drop_load, fresh_tables};
+use answer::Refusal;
+use execution::Tables;
 use gathering::gather;
-use reception::{Line, Reception, idle_line};
+use reception::{Line, Reception};
 use records::zero_store;
 use replying::reply_to;
+use state::sizes_good;
 pub use state::{Device, Held};
-use state::{can_resend, line_of, nothing_held, refusal_of, sizes_good, with_line};
 
-// The device after a call, the refusal's number or 0, how many bytes of the piece were taken, and how many were written to the start of `out`.
-#[derive(Clone, Copy)]
-pub struct Received {
-    pub device: Device,
-    pub refusal: u8,
+// How many bytes of the piece a call took, and how many it wrote to the start of `out`.
+#[derive(Clone, Copy, Debug, PartialEq, Eq)]
+pub struct Taken {
     pub taken: usize,
     pub written: usize,
 }
 
-// A fresh device, and the refusal's number or 0.
-#[derive(Clone, Copy)]
-pub struct Started {
-    pub device: Device,
-    pub refusal: u8,
-}
-
-// The device after a reply, and how many bytes were written.
-#[derive(Clone, Copy)]
-struct Replied {
-    device: Device,
-    written: usize,
-}
+// A call that takes and writes nothing.
+const SILENT: Taken = Taken {
+    taken: 0,
+    written: 0,
+};
 
 // A fresh device: between packets, its tables empty, and no response to send again.
 fn fresh_device() -> Device
     ensures { result ≡ (state_of fresh).device }
 {
-    let store = [0u8; 2048];
-    let held = nothing_held();
-    let tables = fresh_tables();
     Device {
         reception: Reception::Idle,
         spoiled: false,
         count: 0,
-        store,
-        held,
-        tables,
+        store: [0; 2048],
+        held: Held::nothing(),
+        tables: Tables::fresh(),
     }
 }
 
 // Starts a fresh device and zeroes both stores. Refusal: 2.
-pub fn start(live: &mut [u8], loading: &mut [u8]) -> Started
-    ensures { Starts live.old loading.old result live.new loading.new }
+pub fn start(live: &mut [u8], loading: &mut [u8]) -> Result<Device, Refusal>
+    ensures { Starts live.old loading.old (started result) live.new loading.new }
 {
-    let device = fresh_device();
     if !sizes_good(live, loading) {
-        return Started { device, refusal: 2 };
+        return Err(Refusal::WrongSize);
     }
     zero_store(live);
     zero_store(loading);
-    Started { device, refusal: 0 }
-}
-
-// The answer of a refused call: the device as it was.
-fn refused(device: Device, refusal: u8) -> Received
-    ensures { result ≡ record { device = device; refusal = refusal; taken = 0; written = 0 } }
-{
-    Received {
-        device,
-        refusal,
-        taken: 0,
-        written: 0,
-    }
+    Ok(fresh_device())
 }
 
 // Takes the bytes of `piece` up to the one that completes a reply, or all of them.
 fn take_piece(
-    device: Device,
+    device: &mut Device,
     piece: &[u8],
     out: &mut [u8],
     live: &mut [u8],
     loading: &mut [u8],
-) -> Received
-    requires { (64 ≤ length out.old) × (is_sized (state_as device live.old loading.old) ≡ true) × (sound (state_as device live.old loading.old) ≡ true) }
-    ensures { Gives 0 (after_piece piece.now (state_as device live.old loading.old)) out.old result out.new live.new loading.new }
+) -> Taken
+    requires { (64 ≤ length out.old) × (is_sized (state_as device.old live.old loading.old) ≡ true) × (sound (state_as device.old live.old loading.old) ≡ true) × Arrays device.old }
+    ensures { Gives 0 (after_piece piece.now (state_as device.old live.old loading.old)) out.old (received device.new (Ok result)) out.new live.new loading.new }
 {
-    let held = device.held;
-    let mut store = device.store;
-    let got = gather(line_of(device), &mut store, piece, can_resend(held));
-    let line = got.line;
-    let heard = with_line(device, line, store);
-    if !got.asked {
-        return Received {
-            device: heard,
-            refusal: 0,
-            taken: got.taken,
-            written: 0,
-        };
-    }
-    let replied = reply_to(heard, got.last, out, live, loading);
-    let device = replied.device;
-    Received {
-        device,
-        refusal: 0,
+    let resend = device.held.can_resend();
+    let got = gather(device.line(), &mut device.store, piece, resend);
+    device.set_line(got.line);
+    let written = match got.asked {
+        Some(b) => reply_to(device, b, out, live, loading),
+        None => 0,
+    };
+    Taken {
         taken: got.taken,
-        written: replied.written,
+        written,
     }
 }
 
 // Takes a piece of the line's bytes, up to the one that completes a reply, or all. Refusals in this order: 1, 2, 3.
 pub fn receive(
-    device: Device,
+    device: &mut Device,
     piece: &[u8],
     out: &mut [u8],
     live: &mut [u8],
     loading: &mut [u8],
-) -> Received
-    ensures { Answers (state_as device live.old loading.old) (after_piece piece.now (state_as device live.old loading.old)) out.old result out.new live.new loading.new }
+) -> Result<Taken, Refusal>
+    ensures { Answers (state_as device.old live.old loading.old) (after_piece piece.now (state_as device.old live.old loading.old)) out.old (received device.new result) out.new live.new loading.new }
 {
-    let refusal = refusal_of(device, out.len(), live, loading);
-    if refusal != 0 {
-        return refused(device, refusal);
-    }
-    take_piece(device, piece, out, live, loading)
+    device.judge(out.len(), live, loading)?;
+    Ok(take_piece(device, piece, out, live, loading))
 }
 
 // The line was silent for too long: reception goes idle. Refusals: 1, 2, 3.
-pub fn timeout(device: Device, out: &mut [u8], live: &mut [u8], loading: &mut [u8]) -> Received
-    ensures { Answers (state_as device live.old loading.old) (after_event timeoutEvent (state_as device live.old loading.old)) out.old result out.new live.new loading.new }
+pub fn timeout(
+    device: &mut Device,
+    out: &mut [u8],
+    live: &mut [u8],
+    loading: &mut [u8],
+) -> Result<Taken, Refusal>
+    ensures { Answers (state_as device.old live.old loading.old) (after_event timeoutEvent (state_as device.old live.old loading.old)) out.old (received device.new result) out.new live.new loading.new }
 {
-    let refusal = refusal_of(device, out.len(), live, loading);
-    if refusal != 0 {
-        return refused(device, refusal);
-    }
-    let store = device.store;
-    let silent = with_line(device, idle_line(), store);
-    refused(silent, 0)
+    device.judge(out.len(), live, loading)?;
+    device.set_line(Line::idle());
+    Ok(SILENT)
 }
 
 // The board restarted: reception idle, held response forgotten, open load dropped. Refusals: 1, 2, 3.
-pub fn restart(device: Device, out: &mut [u8], live: &mut [u8], loading: &mut [u8]) -> Received
-    ensures { Answers (state_as device live.old loading.old) (after_event restartEvent (state_as device live.old loading.old)) out.old result out.new live.new loading.new }
+pub fn restart(
+    device: &mut Device,
+    out: &mut [u8],
+    live: &mut [u8],
+    loading: &mut [u8],
+) -> Result<Taken, Refusal>
+    ensures { Answers (state_as device.old live.old loading.old) (after_event restartEvent (state_as device.old live.old loading.old)) out.old (received device.new result) out.new live.new loading.new }
 {
-    let refusal = refusal_of(device, out.len(), live, loading);
-    if refusal != 0 {
-        return refused(device, refusal);
-    }
-    let store = device.store;
-    let before = device.tables;
-    let held = nothing_held();
-    let tables = drop_load(before, loading);
-    let next = Device {
-        reception: Reception::Idle,
-        spoiled: false,
-        count: 0,
-        store,
-        held,
-        tables,
-    };
-    refused(next, 0)
+    device.judge(out.len(), live, loading)?;
+    device.set_line(Line::idle());
+    device.set_held(Held::nothing());
+    device.tables.drop_load(loading);
+    Ok(SILENT)
 }

@@ -1,6 +1,5 @@
-// The bytes that are answered: CAN, NAK, and a second check byte (scope paper, section Reception).
+// The bytes that are answered: CAN, NAK, and a second check byte (scope paper, section Reception). Each function tells how many bytes it wrote.
 ghost use Rattle.std.specs.Prelude.{◌≡◌, true, [], ◌∷◌, ◌≤◌, ◌<◌, length, take};
-ghost use Rattle.answer.specs.Answers.{over};
 ghost use Rattle.packet.specs.Packet.{packet_of};
 ghost use Rattle.state.specs.State.{state_as, can_resend};
 ghost use Rattle.device.specs.Machine.{good_packet};
@@ -8,106 +7,71 @@ ghost use Rattle.gathering.specs.Gathering.{asks_in};
 ghost use Rattle.device.specs.Steps.{cancelled, resent, ran, completed, replied_in, Says, Does, Sends};
 ghost use Rattle.device.specs.Steps.{refused as refusedState};
 
-use crate::Replied;
-use execution::{Response, execute};
+use execution::Response;
 use packet::write_packet;
-use reception::{Reception, idle_line};
-use state::{Device, Held, nothing_held, with_held, with_line};
+use reception::{Line, Reception};
+use state::{Device, Held};
 
-// Writes the response's packet to the start of `out`, and tells its length.
-fn send(response: Response, out: &mut [u8]) -> usize
-    requires { (1 ≤ response.length) × (response.length ≤ 19) × (63 ≤ length out.old) }
-    ensures { Sends (packet_of (take response.length response.payload)) out.old result out.new }
+// Writes the response's packet to the start of `out`.
+fn send(response: &Response, out: &mut [u8]) -> usize
+    requires { (1 ≤ response.now.length) × (response.now.length ≤ 19) × (63 ≤ length out.old) }
+    ensures { Sends (packet_of (take response.now.length response.now.payload)) out.old result out.new }
 {
-    let payload = response.payload;
-    let n = response.length;
-    let answer = write_packet(&payload[0..n], out);
-    answer.length
+    write_packet(&response.payload[..response.length], out).unwrap()
 }
 
-// Writes 06h and the response's packet to the start of `out`, and tells their length.
-fn acknowledge(response: Response, out: &mut [u8]) -> usize
-    requires { (1 ≤ response.length) × (response.length ≤ 19) × (64 ≤ length out.old) }
-    ensures { Sends (0x06 ∷ packet_of (take response.length response.payload)) out.old result out.new }
+// Writes 06h and the response's packet to the start of `out`.
+fn acknowledge(response: &Response, out: &mut [u8]) -> usize
+    requires { (1 ≤ response.now.length) × (response.now.length ≤ 19) × (64 ≤ length out.old) }
+    ensures { Sends (0x06 ∷ packet_of (take response.now.length response.now.payload)) out.old result out.new }
 {
     out[0] = 0x06;
     send(response, &mut out[1..]) + 1
 }
 
 // CAN: 04h, and nothing is held.
-fn cancel(device: Device, out: &mut [u8]) -> Replied
+fn cancel(device: &mut Device, out: &mut [u8]) -> usize
     requires { 64 ≤ length out.old }
-    ensures { Says (cancelled (state_as device [] [])) out.old result out.new }
+    ensures { Says (cancelled (state_as device.old [] [])) out.old (record { device = device.new; written = result }) out.new }
 {
-    let next = with_held(device, nothing_held());
+    device.set_held(Held::nothing());
     out[0] = 0x04;
-    Replied {
-        device: next,
-        written: 1,
-    }
+    1
 }
 
 // NAK: the held response packet again, without 06h.
-fn resend(device: Device, out: &mut [u8]) -> Replied
-    requires { (64 ≤ length out.old) × (1 ≤ device.held.response.length) × (device.held.response.length ≤ 19) × (device.held.times < 3) }
-    ensures { Says (resent (state_as device [] [])) out.old result out.new }
+fn resend(device: &mut Device, out: &mut [u8]) -> usize
+    requires { (64 ≤ length out.old) × (1 ≤ device.old.held.response.length) × (device.old.held.response.length ≤ 19) × (device.old.held.times < 3) }
+    ensures { Says (resent (state_as device.old [] [])) out.old (record { device = device.new; written = result }) out.new }
 {
-    let held = device.held;
-    let response = held.response;
-    let written = send(response, out);
-    let again = Held {
-        response,
-        times: held.times + 1,
-    };
-    let next = with_held(device, again);
-    Replied {
-        device: next,
-        written,
-    }
+    device.held.times += 1;
+    send(&device.held.response, out)
 }
 
 // A packet that is not good: 15h, and the held response stays.
-fn refuse(device: Device, out: &mut [u8]) -> Replied
+fn refuse(device: &mut Device, out: &mut [u8]) -> usize
     requires { 64 ≤ length out.old }
-    ensures { Says (refusedState (state_as device [] [])) out.old result out.new }
+    ensures { Says (refusedState (state_as device.old [] [])) out.old (record { device = device.new; written = result }) out.new }
 {
-    let store = device.store;
-    let next = with_line(device, idle_line(), store);
+    device.set_line(Line::idle());
     out[0] = 0x15;
-    Replied {
-        device: next,
-        written: 1,
-    }
+    1
 }
 
 // A good packet: its command is executed, 06h and the response's packet are written, and the response is held.
-fn run(device: Device, out: &mut [u8], live: &mut [u8], loading: &mut [u8]) -> Replied
-    requires { (64 ≤ length out.old) × (device.count ≤ 2048) }
-    ensures { Does (ran (state_as device live.old loading.old)) out.old result out.new live.new loading.new }
+fn run(device: &mut Device, out: &mut [u8], live: &mut [u8], loading: &mut [u8]) -> usize
+    requires { (64 ≤ length out.old) × (device.old.count ≤ 2048) }
+    ensures { Does (ran (state_as device.old live.old loading.old)) out.old (record { device = device.new; written = result }) out.new live.new loading.new }
 {
-    let store = device.store;
-    let n = device.count;
-    let before = device.tables;
-    let done = execute(before, &store[0..n], live, loading);
-    let response = done.response;
-    let tables = done.tables;
-    let written = acknowledge(response, out);
-    let held = Held { response, times: 0 };
-    let next = Device {
-        reception: Reception::Idle,
-        spoiled: false,
-        count: 0,
-        store,
-        held,
-        tables,
-    };
-    Replied {
-        device: next,
-        written,
-    }
+    let payload = &device.store[..device.count];
+    let response = device.tables.execute(payload, live, loading);
+    device.set_line(Line::idle());
+    device.set_held(Held { response, times: 0 });
+    acknowledge(&response, out)
 }
 
 // Whether a complete packet is good: not spoiled, not empty, and with the payload's check.
+#[tactic(auto, unfolding(crate::specs::Machine::good_packet))]
 fn is_good(spoiled: bool, payload: &[u8], first: u8, second: u8) -> bool
     ensures { result ≡ good_packet spoiled payload.now first second }
 {
@@ -118,19 +82,18 @@ fn is_good(spoiled: bool, payload: &[u8], first: u8, second: u8) -> bool
 
 // The second check byte: the packet is complete.
 fn complete(
-    device: Device,
+    device: &mut Device,
     first: u8,
     second: u8,
     out: &mut [u8],
     live: &mut [u8],
     loading: &mut [u8],
-) -> Replied
-    requires { (64 ≤ length out.old) × (device.count ≤ 2048) }
-    ensures { Does (completed (state_as device live.old loading.old) first second) out.old result out.new live.new loading.new }
+) -> usize
+    requires { (64 ≤ length out.old) × (device.old.count ≤ 2048) }
+    ensures { Does (completed (state_as device.old live.old loading.old) first second) out.old (record { device = device.new; written = result }) out.new live.new loading.new }
 {
-    let store = device.store;
-    let n = device.count;
-    if is_good(device.spoiled, &store[0..n], first, second) {
+    let payload = &device.store[..device.count];
+    if is_good(device.spoiled, payload, first, second) {
         run(device, out, live, loading)
     } else {
         refuse(device, out)
@@ -139,17 +102,16 @@ fn complete(
 
 // Answers the byte `b`.
 pub(crate) fn reply_to(
-    device: Device,
+    device: &mut Device,
     b: u8,
     out: &mut [u8],
     live: &mut [u8],
     loading: &mut [u8],
-) -> Replied
-    requires { (64 ≤ length out.old) × (device.count ≤ 2048) × (device.held.response.length ≤ 19) × (asks_in device.reception (can_resend device.held) b ≡ true) }
-    ensures { Does (replied_in device.reception (state_as device live.old loading.old) b) out.old result out.new live.new loading.new }
+) -> usize
+    requires { (64 ≤ length out.old) × (device.old.count ≤ 2048) × (device.old.held.response.length ≤ 19) × (asks_in device.old.reception (can_resend device.old.held) b ≡ true) }
+    ensures { Does (replied_in device.old.reception (state_as device.old live.old loading.old) b) out.old (record { device = device.new; written = result }) out.new live.new loading.new }
 {
-    let reception = device.reception;
-    match reception {
+    match device.reception {
         Reception::Idle => {
             if b == 0x18 {
                 cancel(device, out)
@@ -157,9 +119,9 @@ pub(crate) fn reply_to(
                 resend(device, out)
             }
         }
-        Reception::InData => Replied { device, written: 0 },
-        Reception::After13h => Replied { device, written: 0 },
-        Reception::FirstCheck => Replied { device, written: 0 },
+        Reception::InData => 0,
+        Reception::After13h => 0,
+        Reception::FirstCheck => 0,
         Reception::SecondCheck(first) => complete(device, first, b, out, live, loading),
     }
 }

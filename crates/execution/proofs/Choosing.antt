@@ -3,12 +3,13 @@ use mathlib.Core.Path.{◌≡◌, refl, sym, ap, ◌∙◌}
 use mathlib.Core.Bool.{Bool, true, false, cond, true≢false, false≢true}
 use mathlib.Core.List.{List}
 use Prim.Native.Nat.{ℕ}
-use lib.ListN.{length}
+use lib.ListN.{length, take, length-replicate}
+use Rattle.std.specs.Prelude.{Option, Some, None}
 use lib.Dec.{eqb}
 use Rattle.std.specs.Cmp.Lexicographic.{pointwise}
 use Rattle.records.specs.Store.{zeros}
-use Rattle.tables.specs.declared.Closed.{Closed}
-use Rattle.tables.specs.Closing.{Closes, new_version, new_versions, version_of}
+use Rattle.tables.specs.declared.Extent.{Extent}
+use Rattle.tables.specs.Closing.{Closes, new_extent, new_version, new_versions, version_of}
 use Rattle.command.specs.declared.Command.{Command}
 use Rattle.command.specs.declared.Command.TheVariants.{Tlr}
 use Rattle.command.specs.Texts.{ascii}
@@ -18,7 +19,7 @@ use Rattle.execution.specs.declared.Tables.{Tables}
 use Rattle.execution.specs.declared.Response.{Response}
 use Rattle.execution.specs.CommandTable.{version_in, block_in, same, response_to}
 use Rattle.execution.specs.Stored.{Stored, stored_as, no_load}
-use Rattle.execution.specs.Promise.{Executed, tables_with, new_load, grown, stocked_in, fed_in, accepted_in, replaced_in, dropped_in, ended_in, executed_as, executed, responded, response_with, Executes}
+use Rattle.execution.specs.Promise.{Executed, tables_with, new_load, grown, stocked_in, fed_in, accepted_in, replaced_in, dropped_in, ended_in, executed_as, executed, responded, response_with, Executes, Drops}
 use Rattle.execution.proofs.Same.{same_is}
 use Rattle.execution.specs.Steps.{executed_of, Leaves, after_tle, tle_response, Ends}
 
@@ -55,6 +56,14 @@ module _ (t : Tables) (p loading loading' : List ℕ) where
 
 -- ---- TLE
 
+is_none : (t : Bool) (x : Extent) → (let o : Option Extent = cond t (Some x) None in o) ≡ None → t ≡ false
+is_none true x e = absurd cc
+is_none false x e = refl
+
+is_some : (t : Bool) (x y : Extent) → (let o : Option Extent = cond t (Some x) None in o) ≡ Some y → (t ≡ true) × (x ≡ y)
+is_some true x y e = (refl, cc)
+is_some false x y e = absurd cc
+
 module _ (s : Stored) where
   ends_by : (after : Stored) (text : List ℕ) → after_tle s ≡ after → tle_response s ≡ text
       → (r : Executed) (live' loading' : List ℕ) → r ≡ executed_of after.tables text → live' ≡ after.live → loading' ≡ after.loading → Ends s r live' loading'
@@ -65,40 +74,36 @@ module _ (s : Stored) where
   }
 
 module _ (t : Tables) (live loading : List ℕ) where
-  module _ (live' loading' : List ℕ) (o : t.load.opened ≡ true) (k : Closed) (c : Closes t.load.network t.live t.load.kept live loading k live' loading') where
-    accepted : k.done ≡ accepted_in (stored_as t live loading)
-    unfolding accepted_in
-    accepted = c.done
+  module _ (live' loading' : List ℕ) (o : t.load.opened ≡ true) (k : Option Extent) (c : Closes t.load.network t.live t.load.kept live loading k live' loading') where
+    abbrev new : Extent
+    new = new_extent t.load.network t.live live t.load.kept loading
 
     -- past a limit the load is dropped
-    pub ends_dropped : k.done ≡ false → (l : OpenLoad) (r : Response) → l ≡ no_load → r ≡ response_with (ascii "TLE021")
-        → Ends (stored_as t live loading) (record { tables = tables_with t l; response = r }) live' loading'
-    ends_dropped d l r el er =
+    pub ends_dropped : k ≡ None → (next : Tables) (loading'' : List ℕ) (r : Response) → Drops t loading' next loading'' → r ≡ response_with (ascii "TLE021")
+        → Ends (stored_as t live loading) (record { tables = next; response = r }) live' loading''
+    unfolding accepted_in
+    ends_dropped d next loading'' r n er =
         let s = stored_as t live loading in
-        let q = sym accepted ∙ d in
+        let q = is_none (accepted_in s) new (sym c.answer ∙ d) in
         ends_by s (dropped_in s) (ascii "TLE021") (picked t.load.opened (ended_in s) s o ∙ left (accepted_in s) (replaced_in s) (dropped_in s) q)
         (picked t.load.opened (cond (accepted_in s) (ascii "TLE000") (ascii "TLE021")) (ascii "TLE010") o ∙ left (accepted_in s) (ascii "TLE000") (ascii "TLE021") q)
-        (record { tables = tables_with t l; response = r }) live' loading' (λ i. record { tables = tables_with t (el i); response = er i })
-        (c.store ∙ left _ _ live (sym c.done ∙ d)) c.zeroed
+        (record { tables = next; response = r }) live' loading'' (λ i. record { tables = n.tables' i; response = er i })
+        (c.store ∙ left _ _ live q) (n.store' ∙ ap zeros (ap length c.zeroed ∙ length-replicate (length loading) 0))
 
     -- else the new set is the live one
-    pub ends_replaced : k.done ≡ true → (v versions : List ℕ) (l : OpenLoad) (r : Response) → v ≡ new_version t.load.any t.load.version
+    pub ends_replaced : (e : Extent) → k ≡ Some e → (v versions : List ℕ) (l : OpenLoad) (r : Response) → v ≡ new_version t.load.any t.load.version
         → versions ≡ new_versions t.load.network v t.versions → l ≡ no_load
         → r ≡ response_with (ascii "TLE000")
-        → Ends (stored_as t live loading) (record { tables = record { versions = versions; live = record { used = k.used; records = k.records }; load = l }; response = r }) live' loading'
-    ends_replaced d v versions l r ev en el er =
+        → Ends (stored_as t live loading) (record { tables = record { versions = versions; live = e; load = l }; response = r }) live' loading'
+    unfolding accepted_in
+    ends_replaced e d v versions l r ev en el er =
         let s = stored_as t live loading in
-        let q = sym accepted ∙ d in
-        let z = sym c.done ∙ d in
-        let u = c.used ∙ picked _ _ t.live.used z in
-        let n = c.records ∙ picked _ _ t.live.records z in
-        let w = en ∙ ap (λ (x : List ℕ). new_versions t.load.network x t.versions) ev in
-        let e : ◌≡◌ {A = Tables} (record { versions = versions; live = record { used = k.used; records = k.records }; load = l }) (replaced_in s).tables =
-        λ i. record { versions = w i; live = record { used = u i; records = n i }; load = el i } in
+        let (q, x) = is_some (accepted_in s) new e (sym c.answer ∙ d) in
+        let w = en ∙ ap (λ (y : List ℕ). new_versions t.load.network y t.versions) ev in
         ends_by s (replaced_in s) (ascii "TLE000") (picked t.load.opened (ended_in s) s o ∙ picked (accepted_in s) (replaced_in s) (dropped_in s) q)
         (picked t.load.opened (cond (accepted_in s) (ascii "TLE000") (ascii "TLE021")) (ascii "TLE010") o ∙ picked (accepted_in s) (ascii "TLE000") (ascii "TLE021") q)
-        _ live' loading' (λ i. record { tables = e i; response = er i })
-        (c.store ∙ picked _ _ live z) c.zeroed
+        _ live' loading' (λ i. record { tables = record { versions = w i; live = sym x i; load = el i }; response = er i })
+        (c.store ∙ picked _ _ live q) c.zeroed
 
 -- ---- any command
 

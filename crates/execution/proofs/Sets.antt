@@ -11,9 +11,10 @@ use Rattle.records.specs.Record.{recs, takes, good_block, records_of}
 use Rattle.records.specs.Store.{zeros, store_of, fits}
 use Rattle.records.specs.Claims.{AllRecords}
 use Rattle.records.proofs.Stores.{fits_both}
-use Rattle.tables.specs.declared.Closed.{Closed}
+use Rattle.std.specs.Prelude.{Option, Some, None}
+use Rattle.tables.specs.declared.Extent.{Extent}
 use Rattle.tables.specs.Loading.{taken, taken_of, Kept, keep_all, Stocked, stock_all, Adds}
-use Rattle.tables.specs.Closing.{new_set, new_bytes, new_records, closes, Closes}
+use Rattle.tables.specs.Closing.{new_set, new_bytes, new_extent, closes, Closes}
 use Rattle.tables.proofs.Loads.{add_keeps, add_sound_as}
 use Rattle.tables.proofs.NewSets.{live_sound_as}
 use Rattle.execution.specs.Core.{Loading, Core}
@@ -84,18 +85,15 @@ module _ (c : Core) (live : Fine 0 c.records) (l : Loading) (load : Fine l.netwo
   abbrev new_long : ℕ
   new_long = length (new_bytes l.network (extent_of c.records) live_bytes (load_of l.kept) load_bytes)
 
-  abbrev new_count : ℕ
-  new_count = new_records l.network (extent_of c.records) live_bytes (load_of l.kept)
-
-  abbrev answer : Closed
-  answer = record { done = closed; used = cond closed new_long (length (flatten c.records)); records = cond closed new_count (length c.records) }
+  abbrev answer : Option Extent
+  answer = cond closed (Some (new_extent l.network (extent_of c.records) live_bytes (load_of l.kept) load_bytes)) None
 
   abbrev live_after : List ℕ
   live_after = cond closed (new_bytes l.network (extent_of c.records) live_bytes (load_of l.kept) load_bytes ++ zeros (length live_bytes - new_long)) live_bytes
 
   -- what closing does to the stores
   closing : Closes l.network (extent_of c.records) (load_of l.kept) live_bytes load_bytes answer live_after (zeros (length load_bytes))
-  closing = record { done = refl; used = refl; records = refl; store = refl; zeroed = refl }
+  closing = record { answer = refl; store = refl; zeroed = refl }
 
   new_back_lem : new_back ≡ new_set l.network c.records l.kept.records
   new_back_lem = λ i. new_set l.network (fine_back 0 c.records live i) (fine_back l.network l.kept.records load i)

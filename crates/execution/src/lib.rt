@@ -16,7 +16,7 @@ use tables::{Extent, Load};
 
 // The open load: what TLI named, the extent of the records kept and whether one was not, and whether a TLR was answered 000. With no load open
 // every field is 0.
-#[derive(Clone, Copy)]
+#[derive(Clone, Copy, Debug, PartialEq, Eq)]
 pub struct OpenLoad {
     pub opened: bool,
     pub network: u8,
@@ -26,7 +26,7 @@ pub struct OpenLoad {
 }
 
 // What commands read and change, beside the two lent stores: ten bytes of version for each network, the live store's extent, the open load.
-#[derive(Clone, Copy)]
+#[derive(Clone, Copy, Debug, PartialEq, Eq)]
 pub struct Tables {
     pub versions: [u8; 1000],
     pub live: Extent,
@@ -34,7 +34,7 @@ pub struct Tables {
 }
 
 // A response's payload, zeros after it, and its length.
-#[derive(Clone, Copy)]
+#[derive(Clone, Copy, Debug, PartialEq, Eq)]
 pub struct Response {
     pub payload: [u8; 19],
     pub length: usize,

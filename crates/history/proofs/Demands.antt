@@ -9,11 +9,10 @@ use Rattle.execution.specs.Stored.{extent_of, core_of, stored_of}
 use Rattle.execution.proofs.Between.{core_back}
 use Rattle.state.specs.State.{State, state_as, stored_in}
 use Rattle.state.specs.Sound.{refusal_of}
-use Rattle.device.specs.declared.Started.{Started}
 use Rattle.device.specs.Events.{Event}
 use Rattle.device.specs.Machine.{fresh}
 use Rattle.device.specs.Between.{state_of}
-use Rattle.device.specs.Promise.{Starts}
+use Rattle.device.specs.Promise.{Started, Starts}
 use Rattle.history.specs.Ran.{seen_of, ran_of}
 use Rattle.history.specs.Replies.{replies_of}
 use Rattle.history.specs.Reading.{read_from, run}

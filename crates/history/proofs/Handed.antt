@@ -7,12 +7,11 @@ use lib.Seq.{take_at}
 use Rattle.state.specs.declared.Device.{Device}
 use Rattle.state.specs.State.{State, state_as}
 use Rattle.state.specs.Sound.{refusal_of}
-use Rattle.device.specs.declared.Received.{Received}
 use Rattle.device.specs.Events.{Event}
 use Rattle.device.specs.Events.Event.{timeout, restart}
 use Rattle.device.specs.Machine.{Machine, Stepped, step, call}
 use Rattle.device.specs.Between.{machine_of, state_of}
-use Rattle.device.specs.Promise.{Left, after_piece, after_event, unless, Gives}
+use Rattle.device.specs.Promise.{Received, Left, after_piece, after_event, unless, Gives}
 use Rattle.device.specs.Claims.{Legal}
 use Rattle.device.proofs.Back.{machine_back}
 use Rattle.history.specs.Calls.{bytes_then, still_there, Calls}

@@ -4,11 +4,10 @@ use mathlib.Core.List.{List, [], append-nil}
 use Prim.Native.Nat.{ℕ, ◌≤◌}
 use Rattle.state.specs.State.{State, state_as}
 use Rattle.state.specs.Sound.{refusal_of}
-use Rattle.device.specs.declared.Started.{Started}
 use Rattle.device.specs.Events.{Event}
 use Rattle.device.specs.Machine.{fresh}
 use Rattle.device.specs.Between.{state_of}
-use Rattle.device.specs.Promise.{start_refusal, started_from, Starts}
+use Rattle.device.specs.Promise.{Started, start_refusal, started_from, Starts}
 use Rattle.history.specs.Calls.{Calls}
 use Rattle.history.specs.Reading.{run}
 use Rattle.history.proofs.LegalRuns.{fresh_legal, run_legal, accepted}

@@ -1,10 +1,9 @@
 -- Any sequence of device calls that hands over a history, by what the public calls promise (scope paper, section Reception, its end).
 use Rattle.std.specs.Prelude.{ℕ, zero, suc, ◌≡◌, List, [], ◌∷◌, ◌++◌, take, drop}
 use Rattle.state.specs.State.{State, state_as}
-use Rattle.device.specs.declared.Received.{Received}
 use Rattle.device.specs.Events.{Event}
 use Rattle.device.specs.Events.Event.{byte, timeout, restart}
-use Rattle.device.specs.Promise.{Left, after_piece, after_event, Answers}
+use Rattle.device.specs.Promise.{Received, Left, after_piece, after_event, Answers}
 
 -- bytes, and then the rest of a history
 unfoldable pub bytes_then : List ℕ → List Event → List Event

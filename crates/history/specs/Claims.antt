@@ -17,8 +17,7 @@ use Rattle.history.specs.Tables.{tables_of}
 use Rattle.history.specs.Replies.{replies_of}
 use Rattle.history.specs.Calls.{Calls}
 use Rattle.answer.specs.Answers.{over}
-use Rattle.device.specs.declared.Received.{Received}
-use Rattle.device.specs.Promise.{Left, Answers}
+use Rattle.device.specs.Promise.{Received, Left, Answers}
 
 -- a payload is executed; a restart drops the open load
 unfoldable pub perform : Core → Ran → Core

@@ -5,18 +5,16 @@ use Prim.Native.Nat.{ℕ, zero, suc}
 use native.Mathlib.Omega.{arith}
 use Rattle.state.specs.declared.Device.{Device}
 use Rattle.state.specs.State.{State, state_as}
-use Rattle.device.specs.declared.Received.{Received}
 use Rattle.device.specs.Events.{Event}
 use Rattle.device.specs.Events.Event.{timeout, restart}
-use Rattle.device.specs.Promise.{Left, after_piece, after_event, unless, Gives, Answers, start_refusal}
+use Rattle.device.specs.Promise.{Received, Left, after_piece, after_event, unless, Gives, Answers, start_refusal}
 use Rattle.history.specs.Calls.{Calls}
 use Rattle.history.specs.Calls.Calls.{done as handedOver, received as receives, timed_out as timesOut, restarts as restartsSo, refused_on as refusesOn}
 use Rattle.history.proofs.Covered as device
 use Rattle.history.proofs.Theorems.{started_fresh}
 use Rattle.image.specs.declared.Image.{Image}
-use Rattle.image.specs.declared.Imaged.{Imaged}
 use Rattle.image.specs.Image.{device_of}
-use Rattle.image.specs.ImagePromise.{state_in, StartsImage}
+use Rattle.image.specs.ImagePromise.{Imaged, state_in, StartsImage}
 use Rattle.image.specs.ImageCalls.{Board, board_as, state_on, ImageCalls, CoveredOn}
 use Rattle.image.specs.ImageCalls.ImageCalls.{done, received, timed_out, restarts, refused_on}
 use Rattle.image.proofs.Imaging.{image_stays, image_goes, imaged_by, imaged}

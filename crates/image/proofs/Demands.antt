@@ -8,20 +8,17 @@ use native.Mathlib.Omega.{arith}
 use lib.ListN.{length}
 use Rattle.state.specs.State.{State}
 use Rattle.state.specs.Sound.{refusal_of}
-use Rattle.device.specs.declared.Received.{Received}
-use Rattle.device.specs.declared.Started.{Started}
 use Rattle.device.specs.Events.{Event}
 use Rattle.device.specs.Machine.{fresh}
 use Rattle.device.specs.Between.{state_of}
-use Rattle.device.specs.Promise.{Left, unless, Gives, start_refusal, started_from, Starts}
+use Rattle.device.specs.Promise.{Started, Received, Left, unless, Gives, start_refusal, started_from, Starts}
 use Rattle.history.specs.Calls.{Calls}
 use Rattle.history.specs.Calls.Calls.{done as handedOver, received as receives, timed_out as timesOut, restarts as restartsSo, refused_on as refusesOn}
 use Rattle.history.specs.Claims.{DemandThree}
 use Rattle.history.proofs.Demands as device
 use Rattle.image.specs.declared.Image.{Image}
-use Rattle.image.specs.declared.Imaged.{Imaged}
 use Rattle.image.specs.Image.{image_of, is_image, device_of}
-use Rattle.image.specs.ImagePromise.{state_in, ImageAnswersBy, started_left, StartsImage}
+use Rattle.image.specs.ImagePromise.{Imaged, state_in, ImageAnswersBy, started_left, StartsImage}
 use Rattle.image.specs.ImageCalls.{Board, board_as, state_on, ImageCalls}
 use Rattle.image.specs.ImageCalls.ImageCalls.{done, received, timed_out, restarts, refused_on, start_refused}
 use Rattle.image.proofs.Back.{image_good, image_back, device_back}

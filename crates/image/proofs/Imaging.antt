@@ -4,15 +4,12 @@ use mathlib.Core.List.{List, []}
 use Prim.Native.Nat.{ℕ, zero, suc}
 use Rattle.state.specs.declared.Device.{Device}
 use Rattle.state.specs.State.{State, state_as}
-use Rattle.device.specs.declared.Received.{Received}
-use Rattle.device.specs.declared.Started.{Started}
 use Rattle.device.specs.Machine.{fresh}
 use Rattle.device.specs.Between.{state_of}
-use Rattle.device.specs.Promise.{Left, Gives, Answers, start_refusal, started_from, Starts}
+use Rattle.device.specs.Promise.{Started, Received, Left, Gives, Answers, start_refusal, started_from, Starts}
 use Rattle.image.specs.declared.Image.{Image}
-use Rattle.image.specs.declared.Imaged.{Imaged}
 use Rattle.image.specs.Image.{image_of, device_of}
-use Rattle.image.specs.ImagePromise.{state_in, image_after, ImageGives, ImageAnswersBy, ImageAnswers, started_left, StartsImage}
+use Rattle.image.specs.ImagePromise.{Imaged, state_in, image_after, imaged_by, ImageGives, ImageAnswersBy, ImageAnswers, started_left, StartsImage}
 
 -- ---- the image after a call
 
@@ -26,11 +23,6 @@ pub image_goes : (n : ℕ) (i : Image) (d : Device) → n ≡ 0 → image_after 
 image_goes n i d e = ap (λ (k : ℕ). image_after k i d) e
 
 -- ---- the calls
-
--- what is made of a device's answer
-abbrev pub imaged_by : Image → Received → Imaged
-imaged_by i g =
-    record { image = image_after g.refusal i g.device; answer = record { refusal = g.refusal; taken = g.taken; written = g.written } }
 
 gives : (n : ℕ) (i : Image) (left : Left) (out : List ℕ) (g : Received) (r : Imaged) (out' live' loading' : List ℕ) → Gives n left out g out' live' loading' → r ≡ imaged_by i g
     → ImageGives n i left out r out' live' loading'

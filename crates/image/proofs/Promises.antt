@@ -5,9 +5,8 @@ use mathlib.Core.List.{List, []}
 use Prim.Native.Nat.{ℕ}
 use Rattle.device.specs.Promise.{Left, start_refusal}
 use Rattle.image.specs.declared.Image.{Image}
-use Rattle.image.specs.declared.Imaged.{Imaged}
 use Rattle.image.specs.Image.{flag_of}
-use Rattle.image.specs.ImagePromise.{ImageAnswersBy, started_left, StartsImage, ReceivesImage, TimesOutImage, RestartsImage}
+use Rattle.image.specs.ImagePromise.{Imaged, ImageAnswersBy, started_left, StartsImage, ReceivesImage, TimesOutImage, RestartsImage}
 
 pub flag_one : (b : Bool) (r s : ℕ) → r ≡ flag_of b → s ≡ flag_of b → r ≡ s
 flag_one b r s e f = e ∙ sym f

@@ -1,5 +1,5 @@
 -- The device's state as C holds it: numbers in place of the enum, and bytes in place of the flags; and back.
-use Rattle.std.specs.Prelude.{ℕ, Bool, true, false, not, ◌&&◌, ◌||◌, cond, leb, eqb}
+use Rattle.std.specs.Prelude.{ℕ, ◌≡◌, Bool, true, false, not, ◌&&◌, ◌||◌, cond, leb, eqb}
 use Rattle.reception.specs.Cases.{code_of, first_of, reception_of}
 use Rattle.state.specs.declared.Device.{Device}
 use Rattle.image.specs.declared.Image.{Image}
@@ -67,3 +67,11 @@ device_of i =
         };
       };
     }
+
+-- ---- the conversions
+
+abbrev pub IsImageOf : Device → Image → Type 0
+IsImageOf device image = image ≡ image_of device
+
+abbrev pub IsDeviceOf : Image → Device → Type 0
+IsDeviceOf image device = device ≡ device_of image

@@ -7,8 +7,7 @@ use Rattle.device.specs.Events.Event.{timeout, restart}
 use Rattle.device.specs.Promise.{Left}
 use Rattle.history.specs.Calls.{bytes_then, still_there}
 use Rattle.image.specs.declared.Image.{Image}
-use Rattle.image.specs.declared.Imaged.{Imaged}
-use Rattle.image.specs.ImagePromise.{state_in, ImageAnswers, StartsImage, ReceivesImage, TimesOutImage, RestartsImage}
+use Rattle.image.specs.ImagePromise.{Imaged, state_in, ImageAnswers, StartsImage, ReceivesImage, TimesOutImage, RestartsImage}
 
 -- what firmware keeps between calls: the image and both stores
 pub record Board : Type 0 where

@@ -7,20 +7,30 @@ use Rattle.state.specs.Sound.{refusal_of}
 use Rattle.device.specs.Events.Event.{timeout, restart}
 use Rattle.device.specs.Machine.{fresh}
 use Rattle.device.specs.Between.{state_of}
-use Rattle.device.specs.Promise.{Left, after_piece, after_event, unless, start_refusal}
+use Rattle.device.specs.Promise.{Received, Left, after_piece, after_event, unless, start_refusal}
 use Rattle.image.specs.declared.Image.{Image}
-use Rattle.image.specs.declared.Imaged.{Imaged}
+use Rattle.image.specs.declared.Taken.{Taken}
 use Rattle.image.specs.Image.{image_of, device_of}
 
 -- the state that an image and two stores stand for
 abbrev pub state_in : Image → List ℕ → List ℕ → State
 state_in i live loading = state_as (device_of i) live loading
 
+-- the image after a call, and the call's answer
+pub record Imaged : Type 0 where
+  pub image : Image
+  pub answer : Taken
+
 abbrev pub image_after : ℕ → Image → Device → Image
 image_after zero i d = image_of d
 image_after (suc n) i d = i
 
--- the image after a call, and its answer
+-- what is made of a device's answer
+abbrev pub imaged_by : Image → Received → Imaged
+imaged_by i g =
+    record { image = image_after g.refusal i g.device; answer = record { refusal = g.refusal; taken = g.taken; written = g.written } }
+
+-- and of what the call leaves
 abbrev pub imaged_of : ℕ → Image → Left → Imaged
 imaged_of n i left =
     record {

@@ -4,11 +4,13 @@
 mod converting;
 
 ghost use Rattle.std.specs.Prelude.{◌≡◌};
+ghost use Rattle.answer.specs.Refusals.{number_of};
+ghost use Rattle.device.specs.Promise.{received};
 ghost use Rattle.image.specs.Image.{flag_of};
-ghost use Rattle.image.specs.ImagePromise.{image_after, StartsImage, ReceivesImage, TimesOutImage, RestartsImage};
+ghost use Rattle.image.specs.ImagePromise.{imaged_by, StartsImage, ReceivesImage, TimesOutImage, RestartsImage};
 
-use converting::{device_of, image_of};
-use device::Received;
+use answer::Refusal;
+use device::Device;
 
 // Every byte of a device. `state` is 0 to 4, `first` the first check byte in state 4 and else 0; spoiled, opened, over and any are 0 or 1.
 #[repr(C)]
@@ -34,90 +36,106 @@ pub struct Image {
     pub store: [u8; 2048],
 }
 
-// The refusal's number or 0, how many bytes of the piece were taken, and how many were written to the start of `out`.
+// The refusal's number or 0, how many bytes of the piece were taken, and how many were written to the start of `out`. C knows no Result.
 #[repr(C)]
-#[derive(Clone, Copy)]
+#[derive(Clone, Copy, Debug, PartialEq, Eq)]
 pub struct Taken {
     pub refusal: u8,
     pub taken: usize,
     pub written: usize,
 }
 
-// The image after a call, and its answer.
-#[repr(C)]
-#[derive(Clone, Copy)]
-pub struct Imaged {
-    pub image: Image,
-    pub answer: Taken,
-}
-
 // A flag as a byte.
 pub fn flag(b: bool) -> u8
     ensures { result ≡ flag_of b }
 {
-    if b { 1 } else { 0 }
+    u8::from(b)
 }
 
-// The image after a call: a refused call leaves it as it was.
-fn after(image: Image, got: Received) -> Imaged
-    ensures { result ≡ record { image = image_after got.refusal image got.device; answer = record { refusal = got.refusal; taken = got.taken; written = got.written } } }
+// A refused call has taken and written nothing.
+fn refused(refusal: Refusal) -> Taken
+    ensures { result ≡ record { refusal = number_of refusal; taken = 0; written = 0 } }
 {
-    let answer = Taken {
-        refusal: got.refusal,
-        taken: got.taken,
-        written: got.written,
-    };
-    if got.refusal != 0 {
-        return Imaged { image, answer };
+    Taken {
+        refusal: u8::from(refusal),
+        taken: 0,
+        written: 0,
     }
-    let next = got.device;
-    let image = image_of(next);
-    Imaged { image, answer }
+}
+
+// Brings the image up to date after a call, unless it was refused.
+fn answered(image: &mut Image, device: Device, got: Result<device::Taken, Refusal>) -> Taken
+    ensures { record { image = image.new; answer = result } ≡ imaged_by image.old (received device got) }
+{
+    match got {
+        Ok(done) => {
+            *image = Image::from(device);
+            Taken {
+                refusal: 0,
+                taken: done.taken,
+                written: done.written,
+            }
+        }
+        Err(refusal) => refused(refusal),
+    }
 }
 
 // Starts a fresh device. A refused call leaves the image as it was.
-pub fn start_image(image: Image, live: &mut [u8], loading: &mut [u8]) -> Imaged
-    ensures { StartsImage image live.old loading.old result live.new loading.new }
+pub fn start_image(image: &mut Image, live: &mut [u8], loading: &mut [u8]) -> Taken
+    ensures { StartsImage image.old live.old loading.old (record { image = image.new; answer = result }) live.new loading.new }
 {
-    let started = device::start(live, loading);
-    let fresh = started.device;
-    after(
-        image,
-        Received {
-            device: fresh,
-            refusal: started.refusal,
-            taken: 0,
-            written: 0,
-        },
-    )
+    match device::start(live, loading) {
+        Ok(device) => answered(
+            image,
+            device,
+            Ok(device::Taken {
+                taken: 0,
+                written: 0,
+            }),
+        ),
+        Err(error) => refused(error),
+    }
 }
 
 // Takes a piece of the line's bytes.
 pub fn receive_image(
-    image: Image,
+    image: &mut Image,
     piece: &[u8],
     out: &mut [u8],
     live: &mut [u8],
     loading: &mut [u8],
-) -> Imaged
-    ensures { ReceivesImage image piece.now out.old live.old loading.old result out.new live.new loading.new }
+) -> Taken
+    ensures { ReceivesImage image.old piece.now out.old live.old loading.old (record { image = image.new; answer = result }) out.new live.new loading.new }
 {
-    after(
-        image,
-        device::receive(device_of(image), piece, out, live, loading),
-    )
+    let mut device = Device::from(*image);
+    let got = device::receive(&mut device, piece, out, live, loading);
+    answered(image, device, got)
 }
 
 // A timeout.
-pub fn timeout_image(image: Image, out: &mut [u8], live: &mut [u8], loading: &mut [u8]) -> Imaged
-    ensures { TimesOutImage image out.old live.old loading.old result out.new live.new loading.new }
+pub fn timeout_image(
+    image: &mut Image,
+    out: &mut [u8],
+    live: &mut [u8],
+    loading: &mut [u8],
+) -> Taken
+    ensures { TimesOutImage image.old out.old live.old loading.old (record { image = image.new; answer = result }) out.new live.new loading.new }
 {
-    after(image, device::timeout(device_of(image), out, live, loading))
+    let mut device = Device::from(*image);
+    let got = device::timeout(&mut device, out, live, loading);
+    answered(image, device, got)
 }
 
 // A restart.
-pub fn restart_image(image: Image, out: &mut [u8], live: &mut [u8], loading: &mut [u8]) -> Imaged
-    ensures { RestartsImage image out.old live.old loading.old result out.new live.new loading.new }
+pub fn restart_image(
+    image: &mut Image,
+    out: &mut [u8],
+    live: &mut [u8],
+    loading: &mut [u8],
+) -> Taken
+    ensures { RestartsImage image.old out.old live.old loading.old (record { image = image.new; answer = result }) out.new live.new loading.new }
 {
-    after(image, device::restart(device_of(image), out, live, loading))
+    let mut device = Device::from(*image);
+    let got = device::restart(&mut device, out, live, loading);
+    answered(image, device, got)
 }

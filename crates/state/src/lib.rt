@@ -11,14 +11,14 @@ use reception::{Line, Reception};
 pub use refusing::sizes_good;
 
 // The held response, and how often its packet was sent again. With nothing held every field is 0.
-#[derive(Clone, Copy)]
+#[derive(Clone, Copy, Debug, PartialEq, Eq)]
 pub struct Held {
     pub response: Response,
     pub times: u8,
 }
 
 // The device. The live and the loading store are lent to each call.
-#[derive(Clone, Copy)]
+#[derive(Clone, Copy, Debug, PartialEq, Eq)]
 pub struct Device {
     pub reception: Reception,
     pub spoiled: bool,

@@ -2,6 +2,7 @@
 ghost use Rattle.std.specs.Prelude.{◌≡◌};
 ghost use Rattle.answer.specs.Refusals.{number_in};
 ghost use Rattle.state.specs.State.{state_as};
+ghost use Rattle.state.specs.Claims.{Arrays};
 ghost use Rattle.state.specs.Sound.{both_sized, line_sound, held_sound, sound, refusal_of};
 
 use crate::{Device, Held};
@@ -57,11 +58,18 @@ impl Device {
         self.is_line_sound() && (self.held.is_sound() && self.tables.are_sound(live, loading))
     }
 
+    // The sizes of a device's arrays, which its type gives to a proof where it is taken by value. Nothing runs here.
+    fn sizes(self)
+        ensures { Arrays self }
+    {}
+
     // Refuses a call that has this room, by the state and the stores as they are.
     #[tactic(auto, unfolding(crate::specs::Sound::refusal_of, crate::specs::Sound::is_sized))]
     pub fn judge(&self, room: usize, live: &[u8], loading: &[u8]) -> Result<(), Refusal>
-        ensures { number_in result ≡ refusal_of room (state_as self.now live.now loading.now) }
+        ensures refusal { number_in result ≡ refusal_of room (state_as self.now live.now loading.now) }
+        ensures arrays { Arrays self.now }
     {
+        self.sizes();
         if room < 64 {
             return Err(Refusal::NoRoom);
         }

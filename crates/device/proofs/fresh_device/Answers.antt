@@ -5,4 +5,4 @@ use Rattle.device.proofs.fresh_device.Goals as goal
 
 pub returns : goal.returns
 unfolding fresh state_of
-returns c = simp (c.fresh_tables-tables.ensures, c.nothing_held-held.ensures)
+returns c = simp (c.fresh.ensures, c.nothing.ensures)

@@ -2,7 +2,7 @@
 use Rattle.device.proofs.Running.{response_some, response_short}
 use Rattle.device.proofs.replying.run.Goals as goal
 
-pub acknowledge-written-requires : goal.acknowledge-written-requires
-acknowledge-written-requires c =
-    let e = c.execute-done in
+pub acknowledge-requires : goal.acknowledge-requires
+acknowledge-requires c =
+    let e = c.execute-response in
     (response_some _ _ _ _ _ e.ensures, response_short _ _ _ _ _ e.ensures, c.requires.0)

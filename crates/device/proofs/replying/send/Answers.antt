@@ -1,20 +1,17 @@
 -- `device::replying::send` meets its contract: a response's packet fits.
-use mathlib.Core.Path.{◌≡◌}
-use Prim.Native.Nat.{◌-◌}
-use native.Mathlib.Omega.{arith}
-use lib.ListN.{length, take}
+use Rattle.std.proofs.Common.{rules, ◌≡◌, refl, sym, subst, ℕ, arith, length, take}
+use Rattle.std.specs.Result.{IsOk}
+use Rattle.std.specs.Prelude.{Result}
 use lib.Seq.{length-take-le}
-use borrow.Author.Rules.{rules}
+use Rattle.answer.specs.declared.refusal.Refusal.{Refusal}
 use Rattle.device.proofs.Sending.{sent_whole}
 use Rattle.device.proofs.replying.send.Goals as goal
 
-pub returns : goal.returns
-returns c =
-    let a = c.args in
-    let n = a.response.length in
-    let p = a.response.payload in
-    let len : length p ≡ 19 = search rules in
-    let e : n - 0 ≡ n = omega arith in
-    let l : length (take n p) ≡ n = length-take-le n p (omega arith) in
-    let w = c.write_packet-answer in
-    sent_whole (take n p) a.out.now w.result w.new.out (omega (arith, l)) (omega (arith, l)) (omega arith) (simp e at w.ensures)
+pub unwrap-requires : goal.unwrap-requires
+unwrap-requires c =
+    let r = c.args.response.now in
+    let long : length r.payload ≡ 19 = search rules in
+    let l : length (take r.length r.payload) ≡ r.length = length-take-le r.length r.payload (omega arith) in
+    let w = c.write_packet in
+    let e = sent_whole (take r.length r.payload) c.args.out.now w.result w.new.out (omega (arith, l)) (omega (arith, l)) (omega arith) w.ensures in
+    subst (λ (q : Result ℕ Refusal). IsOk q) (sym e.0) refl

@@ -11,19 +11,13 @@ use native.Mathlib.Omega.{arith}
 use lib.ListN.{length, get_or, take, drop}
 use lib.Seq.{take_all}
 use lib.Dec.{eqb}
-use borrow.Author.Tests.{eq-eqb, ne_eqb, lt-ltb, le-ltb}
+use borrow.Author.Tests.{eq-eqb, ne_eqb, le-ltb}
 use Rattle.crc16.specs.Crc.{check}
 use Rattle.std.specs.Prelude.{Option, Some, None, Ok, Err}
-use Rattle.answer.specs.declared.refusal.Refusal.TheVariants.{Empty, TooLong, NoPacket, WrongCheck}
+use Rattle.answer.specs.declared.refusal.Refusal.TheVariants.{NoPacket, WrongCheck}
 use Rattle.packet.specs.declared.Body.{Body}
 use Rattle.packet.specs.Packet.{packet_of, write_packet, checked, judged, rest_of, read_packet}
 use Rattle.packet.specs.Steps.{payload_in, body_of}
-
-pub write_empty : (p : List ℕ) → length p ≡ 0 → write_packet p ≡ Err Empty
-write_empty p h = rw h refl
-
-pub write_over : (p : List ℕ) → (length p ≡ 0 → ⊥) → 2048 < length p → write_packet p ≡ Err TooLong
-write_over p h k = simp (ne_eqb (length p) 0 h, lt-ltb 2048 (length p) k)
 
 pub write_good : (p : List ℕ) → (length p ≡ 0 → ⊥) → length p ≤ 2048 → write_packet p ≡ Ok (packet_of p)
 write_good p h k = simp (ne_eqb (length p) 0 h, le-ltb 2048 (length p) k)
@@ -31,13 +25,6 @@ write_good p h k = simp (ne_eqb (length p) 0 h, le-ltb 2048 (length p) k)
 -- ---- what the first walk tells of a body
 
 module _ (u : Option (List ℕ)) where
-  pub body_none : (let b : Option Body = None in b) ≡ body_of u → u ≡ None
-  body_none e = by u e
-    where
-      by : (v : Option (List ℕ)) → (let b : Option Body = None in b) ≡ body_of v → v ≡ None
-      by (Some p) e = absurd cc
-      by None e = refl
-
   pub body_some : (r : Body) → (let b : Option Body = Some r in b) ≡ body_of u → (u ≡ Some (payload_in u)) × (r.count ≡ length (payload_in u)) × (r.register ≡ register_after (payload_in u))
   body_some r e = by u e
     where

@@ -1,12 +1,12 @@
 -- The laws of a body's symbols: what they come to one after another, and that this is what the body is sent for.
-use Rattle.std.proofs.Common.{◌≡◌, refl, sym, ap, ap₂, ◌∙◌, ℕ, ◌+◌, ◌≤◌, ◌<◌, Bool, true, false, cond, ◌||◌, List, [], ◌∷◌, ◌++◌, length, set, arith, Option, Some, None}
+use Rattle.std.proofs.Common.{◌≡◌, refl, sym, ap, ap₂, ◌∙◌, ℕ, ◌+◌, ◌≤◌, Bool, true, false, cond, ◌||◌, List, [], ◌∷◌, ◌++◌, length, arith, Option, Some, None}
 use mathlib.Core.List.{append-nil}
 use lib.Dec.{eqb}
-use lib.ListN.{length-append, length-set}
+use lib.ListN.{length-append}
 use lib.Seq.{append_snoc}
 use Rattle.answer.specs.Answers.{over}
 use Rattle.answer.specs.Laid.{pasted}
-use Rattle.answer.proofs.Laid.{set_one, pasted_join, pasted_none, pasted_start}
+use Rattle.answer.proofs.Laid.{pasted_none, pasted_start}
 use Rattle.crc16.specs.Register.{stepped, register_after}
 use Rattle.crc16.proofs.Steps.{step_none, step_after}
 use Rattle.packet.specs.declared.Body.{Body}
@@ -121,25 +121,3 @@ undoes_none xs out r =
 module _ (whole : List (Option ℕ)) (before out : List ℕ) (n : ℕ) where
   pub undoes_all : Undoes whole before out n [] → out ≡ over (payload_in (given whole)) before
   undoes_all u = sym (u.bytes ∙ pasted_none out n)
-
-  pub undoes_not : (l : List (Option ℕ)) → Undoes whole before out n (None ∷ l) → ⊥
-  undoes_not l u = absurd (let e : (let o : Option (List ℕ) = None in o) ≡ Some [] = u.is in cc)
-
-  pub undoes_more : (b : ℕ) (l : List (Option ℕ)) → Undoes whole before out n (Some b ∷ l) → (n < length out) × Undoes whole before (set out n b) (n + 1) l
-  undoes_more b l u = cases (given l) refl u.is u.fits u.bytes
-    where
-      cases : (v : Option (List ℕ)) → given l ≡ v → and_then b v ≡ Some (payload_in (and_then b v)) → n + length (payload_in (and_then b v)) ≤ length out
-          → over (payload_in (given whole)) before ≡ pasted out n (payload_in (and_then b v)) → (n < length out) × Undoes whole before (set out n b) (n + 1) l
-      cases None e i f g = absurd (let z : (let o : Option (List ℕ) = None in o) ≡ Some [] = i in cc)
-      cases (Some q) e i f g =
-          let p : given l ≡ Some (payload_in (given l)) = e ∙ ap (λ (u : Option (List ℕ)). Some (payload_in u)) (sym e) in
-          let j : set out n b ≡ pasted out n (b ∷ []) = set_one out n b (omega arith) in
-          let k : pasted (set out n b) (n + 1) q ≡ pasted out n (b ∷ q) = ap (λ (o : List ℕ). pasted o (n + 1) q) j ∙ pasted_join out n (b ∷ []) q (omega arith) in
-          let m : (n + 1) + length q ≤ length (set out n b) = rw (length-set) (omega arith) in (
-            omega arith,
-            record {
-              is = p;
-              fits = rw (e) m;
-              bytes = rw (e) (g ∙ sym k);
-            },
-          )

@@ -1,5 +1,5 @@
 -- By what the first walk tells: the check, and then the room.
-use Rattle.std.proofs.Common.{rules, ◌≡◌, refl, ap, ◌<◌, ◌^◌, arith, true, false, Option, Some, Ok}
+use Rattle.std.proofs.Common.{rules, ◌≡◌, refl, ap, ◌<◌, ◌≤◌, ◌^◌, arith, true, false, Option, Some, Ok}
 use Rattle.packet.specs.Substitution.{unstuff}
 use Rattle.packet.specs.Steps.{payload_in, body_of}
 use Rattle.packet.specs.declared.Body.{Body}
@@ -12,8 +12,10 @@ returns-then-ne c =
     let a = c.args in
     let r = c.in_ok-count.field-0 in
     let found : (let b : Option Body = Some r in b) ≡ body_of (unstuff a.body.now) = search rules in
+    let some : r.count ≡ 0 → ⊥ = search rules in
+    let most : r.count ≤ 2048 = search rules in
     let small : c.step-check.result < 2 ^ 16 = search rules in
-    let out = judged_by (unstuff a.body.now) r found c.if-count-eq0.false c.if-count-gt2048.false a.a a.b c.step-check.result c.to_be_bytes.result true small c.step-check.ensures c.to_be_bytes.ensures c.if-ne.ensures in
+    let out = judged_by (unstuff a.body.now) r found some most a.a a.b c.step-check.result c.to_be_bytes.result true small c.step-check.ensures c.to_be_bytes.ensures c.if-ne.ensures in
     gives_refused _ _ a.out.now _ out refl
 
 pub returns-then-out-count : goal.returns-then-out-count
@@ -21,8 +23,10 @@ returns-then-out-count c =
     let a = c.args in
     let r = c.in_ok-count.field-0 in
     let found : (let b : Option Body = Some r in b) ≡ body_of (unstuff a.body.now) = search rules in
+    let some : r.count ≡ 0 → ⊥ = search rules in
+    let most : r.count ≤ 2048 = search rules in
     let small : c.step-check.result < 2 ^ 16 = search rules in
-    let out = judged_by (unstuff a.body.now) r found c.if-count-eq0.false c.if-count-gt2048.false a.a a.b c.step-check.result c.to_be_bytes.result false small c.step-check.ensures c.to_be_bytes.ensures c.if-ne.ensures in
+    let out = judged_by (unstuff a.body.now) r found some most a.a a.b c.step-check.result c.to_be_bytes.result false small c.step-check.ensures c.to_be_bytes.ensures c.if-ne.ensures in
     let n = body_some (unstuff a.body.now) r found in
     gives_as a.out.now _ _ out (gives_none (payload_in (unstuff a.body.now)) a.out.now _ (omega (arith, n.1, c.if-out-count.true)) refl)
 
@@ -31,7 +35,9 @@ returns c =
     let a = c.args in
     let r = c.in_ok-count.field-0 in
     let found : (let b : Option Body = Some r in b) ≡ body_of (unstuff a.body.now) = search rules in
+    let some : r.count ≡ 0 → ⊥ = search rules in
+    let most : r.count ≤ 2048 = search rules in
     let small : c.step-check.result < 2 ^ 16 = search rules in
-    let out = judged_by (unstuff a.body.now) r found c.if-count-eq0.false c.if-count-gt2048.false a.a a.b c.step-check.result c.to_be_bytes.result false small c.step-check.ensures c.to_be_bytes.ensures c.if-ne.ensures in
+    let out = judged_by (unstuff a.body.now) r found some most a.a a.b c.step-check.result c.to_be_bytes.result false small c.step-check.ensures c.to_be_bytes.ensures c.if-ne.ensures in
     let n = body_some (unstuff a.body.now) r found in
     gives_as a.out.now _ _ out (gives_good (payload_in (unstuff a.body.now)) a.out.now _ _ (omega (arith, n.1, c.if-out-count.false)) (ap Ok n.1) c.undo.ensures)

@@ -1,12 +1,14 @@
 -- The laws of a body's symbols: what they come to one after another, and that this is what the body is sent for.
-use Rattle.std.proofs.Common.{◌≡◌, refl, sym, ap, ap₂, ◌∙◌, ℕ, ◌+◌, ◌≤◌, Bool, true, false, cond, ◌||◌, List, [], ◌∷◌, ◌++◌, length, arith, Option, Some, None}
+use Rattle.std.proofs.Common.{◌≡◌, refl, sym, ap, ap₂, ◌∙◌, ℕ, ◌+◌, ◌-◌, ◌≤◌, ◌<◌, Bool, true, false, cond, ◌||◌, List, [], ◌∷◌, ◌++◌, length, arith, Option, Some, None}
+use mathlib.Core.Bool.{true≢false}
 use mathlib.Core.List.{append-nil}
 use lib.Dec.{eqb}
-use lib.ListN.{length-append}
+use borrow.Author.Tests.{ne_eqb, eqb-true}
+use lib.ListN.{length-append, length-set, get_or, set, drop}
 use lib.Seq.{append_snoc}
 use Rattle.answer.specs.Answers.{over}
 use Rattle.answer.specs.Laid.{pasted}
-use Rattle.answer.proofs.Laid.{pasted_none, pasted_start}
+use Rattle.answer.proofs.Laid.{pasted_none, pasted_start, set_one, pasted_join}
 use Rattle.crc16.specs.Register.{stepped, register_after}
 use Rattle.crc16.proofs.Steps.{step_none, step_after}
 use Rattle.packet.specs.declared.Body.{Body}
@@ -121,3 +123,81 @@ undoes_none xs out r =
 module _ (whole : List (Option ℕ)) (before out : List ℕ) (n : ℕ) where
   pub undoes_all : Undoes whole before out n [] → out ≡ over (payload_in (given whole)) before
   undoes_all u = sym (u.bytes ∙ pasted_none out n)
+
+  pub undoes_end : (left : List ℕ) → length left ≡ 0 → Undoes whole before out n (symbols left) → out ≡ over (payload_in (given whole)) before
+  unfolding symbols
+  undoes_end [] h u = undoes_all u
+  undoes_end (x ∷ xs) h u = absurd (omega arith)
+
+  -- the symbol at hand is one, since the body is sent for a payload
+  pub undoes_not : (l : List (Option ℕ)) → Undoes whole before out n (None ∷ l) → ⊥
+  undoes_not l u = absurd (let e : (let o : Option (List ℕ) = None in o) ≡ Some [] = u.is in cc)
+
+  undoes_more : (b : ℕ) (l : List (Option ℕ)) → Undoes whole before out n (Some b ∷ l) → (n < length out) × Undoes whole before (set out n b) (n + 1) l
+  undoes_more b l u = cases (given l) refl u.is u.fits u.bytes
+    where
+      cases : (v : Option (List ℕ)) → given l ≡ v → and_then b v ≡ Some (payload_in (and_then b v)) → n + length (payload_in (and_then b v)) ≤ length out
+          → over (payload_in (given whole)) before ≡ pasted out n (payload_in (and_then b v)) → (n < length out) × Undoes whole before (set out n b) (n + 1) l
+      cases None e i f g = absurd (let z : (let o : Option (List ℕ) = None in o) ≡ Some [] = i in cc)
+      cases (Some q) e i f g =
+          let p : given l ≡ Some (payload_in (given l)) = e ∙ ap (λ (u : Option (List ℕ)). Some (payload_in u)) (sym e) in
+          let j : set out n b ≡ pasted out n (b ∷ []) = set_one out n b (omega arith) in
+          let k : pasted (set out n b) (n + 1) q ≡ pasted out n (b ∷ q) = ap (λ (o : List ℕ). pasted o (n + 1) q) j ∙ pasted_join out n (b ∷ []) q (omega arith) in
+          let m : (n + 1) + length q ≤ length (set out n b) = rw (length-set) (omega arith) in (
+            omega arith,
+            record {
+              is = p;
+              fits = rw (e) m;
+              bytes = rw (e) (g ∙ sym k);
+            },
+          )
+
+  plain_more : (x : ℕ) (l : List (Option ℕ)) (t : Bool) → Undoes whole before out n (cond t None (Some x) ∷ l) → (n < length out) × Undoes whole before (set out n x) (n + 1) l
+  plain_more x l true u = absurd (undoes_not l u)
+  plain_more x l false u = undoes_more x l u
+
+  -- a pair, by its second byte
+  pub record Paired (xs : List ℕ) : Type 0 where
+    pub long : 1 ≤ length xs
+    pub above : 0x20 ≤ get_or xs 0 0
+    pub room : n < length out
+    pub more : Undoes whole before (set out n (get_or xs 0 0 - 0x20)) (n + 1) (symbols (drop 1 xs))
+
+  pub undoes_pair : (xs : List ℕ) → Undoes whole before out n (symbols (0x13 ∷ xs)) → Paired xs
+  unfolding symbols plain_of pair_of
+  undoes_pair [] u = absurd (undoes_not [] u)
+  undoes_pair (y ∷ ys) u = cases (eqb y 0x33) (eqb y 0x36) (eqb y 0x37) refl refl refl u
+    where
+      is : (k b : ℕ) → eqb y k ≡ true → k - 0x20 ≡ b → 0x20 ≤ k → Undoes whole before out n (Some b ∷ symbols ys) → Paired (y ∷ ys)
+      is k b e f h u =
+          let s : y ≡ k = eqb-true y k e in
+          let g : y - 0x20 ≡ b = ap (λ (n : ℕ). n - 0x20) s ∙ f in
+          let (r, m) = undoes_more b (symbols ys) u in
+          record { long = omega arith; above = omega arith; room = r; more = rw (g) m }
+
+      cases : (a b c : Bool) → eqb y 0x33 ≡ a → eqb y 0x36 ≡ b → eqb y 0x37 ≡ c → Undoes whole before out n (pair_by a b c ∷ symbols ys) → Paired (y ∷ ys)
+      cases true b c e f g u = is 0x33 0x13 e refl (omega arith) u
+      cases false true c e f g u = is 0x36 0x16 f refl (omega arith) u
+      cases false false true e f g u = is 0x37 0x17 g refl (omega arith) u
+      cases false false false e f g u = absurd (undoes_not (symbols ys) u)
+
+  pub undoes_plain : (x : ℕ) (xs : List ℕ) → (x ≡ 0x13 → ⊥) → Undoes whole before out n (symbols (x ∷ xs)) → (n < length out) × Undoes whole before (set out n x) (n + 1) (symbols xs)
+  unfolding symbols plain_of
+  undoes_plain x [] z u = alone (eqb x 0x13) (ne_eqb x 0x13 z) (eqb x 0x16 || eqb x 0x17) u
+    where
+      alone : (a : Bool) → a ≡ false → (t : Bool) → Undoes whole before out n (cond (a || t) None (Some x) ∷ []) → (n < length out) × Undoes whole before (set out n x) (n + 1) []
+      alone true e t u = absurd (true≢false e)
+      alone false e t u = plain_more x [] t u
+  undoes_plain x (y ∷ ys) z u = others (eqb x 0x13) (ne_eqb x 0x13 z) (eqb x 0x16 || eqb x 0x17) (pair_of y ∷ symbols ys) (symbols (y ∷ ys)) u
+    where
+      others : (a : Bool) → a ≡ false → (t : Bool) (m l : List (Option ℕ)) → Undoes whole before out n (cond a m (cond (a || t) None (Some x) ∷ l))
+          → (n < length out) × Undoes whole before (set out n x) (n + 1) l
+      others true e t m l u = absurd (true≢false e)
+      others false e t m l u = plain_more x l t u
+
+  module _ (left : List ℕ) (x : ℕ) (xs : List ℕ) (e : left ≡ x ∷ xs) (u : Undoes whole before out n (symbols left)) where
+    pub pair_here : x ≡ 0x13 → Paired xs
+    pair_here h = undoes_pair xs (rw (← h, ← e) u)
+
+    pub plain_here : (x ≡ 0x13 → ⊥) → (n < length out) × Undoes whole before (set out n x) (n + 1) (symbols xs)
+    plain_here h = undoes_plain x xs h (rw (← e) u)

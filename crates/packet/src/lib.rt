@@ -6,7 +6,7 @@ ghost use Rattle.answer.specs.Answers.{Gives, over};
 ghost use Rattle.answer.specs.Laid.{pasted, Puts};
 ghost use Rattle.packet.specs.Substitution.{sent, stuff, unstuff};
 ghost use Rattle.packet.specs.Packet.{packet_of, write_packet, before, judged, rest_of, read_packet};
-ghost use Rattle.packet.specs.Steps.{pair_of, plain_of, symbols, payload_in, body_of, Room, Stuffs};
+ghost use Rattle.packet.specs.Steps.{pair_of, symbols, payload_in, body_of, Room, Stuffs};
 
 use answer::Refusal;
 
@@ -136,17 +136,6 @@ fn pair(y: u8) -> Option<u8>
     }
 }
 
-// What a byte outside a pair stands for: none, where it is a raw SYN or ETB, or a 13h that starts no pair.
-#[tactic(auto, unfolding(crate::specs::Steps::plain_of))]
-fn plain(x: u8) -> Option<u8>
-    ensures { result ≡ plain_of x }
-{
-    match x {
-        0x13 | 0x16 | 0x17 => None,
-        _ => Some(x),
-    }
-}
-
 // What the bytes and pairs of a body stand for, one after another.
 #[derive(Drop)]
 struct Symbols<'a> {
@@ -162,15 +151,21 @@ impl<'a> Iterator for Symbols<'a> {
 
     ghost remaining = { item_count (λ s. symbols s.rest.now) };
 
-    #[tactic(auto, unfolding(crate::specs::Steps::symbols))]
+    #[tactic(auto, unfolding(crate::specs::Steps::symbols, crate::specs::Steps::plain_of))]
     fn next(&mut self) -> Option<Option<u8>> {
-        let (symbol, rest) = match self.rest {
-            [] => return None,
-            [0x13, y, rest @ ..] => (pair(*y), rest),
-            [x, rest @ ..] => (plain(*x), rest),
-        };
+        let (&x, rest) = self.rest.split_first()?;
         self.rest = rest;
-        Some(symbol)
+        match x {
+            0x13 => {
+                let Some((&y, rest)) = self.rest.split_first() else {
+                    return Some(None);
+                };
+                self.rest = rest;
+                Some(pair(y))
+            }
+            0x16 | 0x17 => Some(None),
+            _ => Some(Some(x)),
+        }
     }
 }
 
@@ -194,15 +189,23 @@ fn judge(body: &[u8]) -> Option<Body>
     Some(Body { count, register })
 }
 
-// Undoes the substitutions of a body that was judged.
+// Undoes the substitutions of a body that was judged: the second byte of each pair is 20h over the payload byte.
+// By `Symbols`, which judges once more, it takes twice the time.
 fn undo(body: &[u8], out: &mut [u8])
     requires { Room (unstuff body.now) out.old }
     ensures { out.new ≡ over (payload_in (unstuff body.now)) out.old }
 {
-    for (n, symbol) in (Symbols { rest: body }).enumerate() {
-        if let Some(b) = symbol {
-            out[n] = b;
+    let mut left = body;
+    let mut n = 0;
+    while let Some((&x, rest)) = left.split_first() {
+        if x == 0x13 {
+            out[n] = rest[0] - 0x20;
+            left = &rest[1..];
+        } else {
+            out[n] = x;
+            left = rest;
         }
+        n += 1;
     }
 }
 

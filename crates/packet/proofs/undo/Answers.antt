@@ -1,32 +1,67 @@
--- The walk is no longer than the body, and at its end no symbol is left.
-use Rattle.std.proofs.Common.{rules, ◌≡◌, sym, ap, ◌∙◌, ◌+◌, ◌<◌, ◌^◌, arith, ℕ, List, Option, length, inl, []}
+-- A pair has its second byte, 20h or more, and each byte its room.
+use Rattle.std.proofs.Common.{rules, ◌≡◌, sym, ap, ◌∙◌, ◌<◌, arith, ℕ, List, Option, length, drop, Bor}
 use Rattle.answer.specs.Answers.{over}
+use Rattle.answer.proofs.Parts.{rest_part}
 use Rattle.packet.specs.Steps.{symbols, payload_in}
-use Rattle.packet.proofs.Reading.{Undoes, symbols_short, symbols_given, undoes_none, undoes_all}
+use Rattle.packet.proofs.Reading.{symbols_given, undoes_none, undoes_end, pair_here, plain_here}
 use Rattle.packet.proofs.undo.Goals as goal
+use Rattle.packet.proofs.undo.Goals.{then-x-eq19, else-x-eq19}
 
-pub loop-n-init-derived : goal.loop-n-init-derived
-loop-n-init-derived c =
-    let it = c.into_iter-n-iterator.result in
-    let long : length c.args.body.now < 2 ^ 64 = search rules in
-    let count : it.count ≡ 0 = search rules in
-    let rest : it.iter.rest.now ≡ c.args.body.now = search rules in
-    let n : it.count + length (symbols it.iter.rest.now) < 2 ^ 64 = rw (count, rest) (omega (arith, symbols_short c.args.body.now, long)) in
-    ((tt, tt, inl n), tt)
+pub loop-x-init : goal.loop-x-init
+loop-x-init c = undoes_none c.args.body.now c.args.out.now c.requires
 
-pub loop-n-init : goal.loop-n-init
-loop-n-init c =
-    let it = c.into_iter-n-iterator.result in
-    let count : it.count ≡ 0 = search rules in
-    let rest : it.iter.rest.now ≡ c.args.body.now = search rules in
-    let d = loop-n-init-derived c in
-    (d.0, d.1, rw (count, rest) (undoes_none c.args.body.now c.args.out.now c.requires))
+pub bounds-rest-0 : goal.bounds-rest-0
+bounds-rest-0 c =
+    let l = c.loop-x in
+    let p = pair_here (symbols c.args.body.now) c.args.out.now l.out l.n l.left.now c.in-Some.field-0-0.now c.in-Some.rest.now c.in-Some.ensures.cases.0 l.invariant c.if-x-eq19.true in
+    let h : 0 < length c.in-Some.rest.now = omega (arith, p.long) in
+    search rules
+
+pub overflow_sub-out : goal.overflow_sub-out
+overflow_sub-out c =
+    let l = c.loop-x in
+    let p = pair_here (symbols c.args.body.now) c.args.out.now l.out l.n l.left.now c.in-Some.field-0-0.now c.in-Some.rest.now c.in-Some.ensures.cases.0 l.invariant c.if-x-eq19.true in
+    p.above
+
+pub bounds-out-n : goal.bounds-out-n
+bounds-out-n c =
+    let l = c.loop-x in
+    let p = pair_here (symbols c.args.body.now) c.args.out.now l.out l.n l.left.now c.in-Some.field-0-0.now c.in-Some.rest.now c.in-Some.ensures.cases.0 l.invariant c.if-x-eq19.true in
+    p.room
+
+pub slice_bounds-left-count : goal.slice_bounds-left-count
+slice_bounds-left-count c =
+    let l = c.loop-x in
+    let p = pair_here (symbols c.args.body.now) c.args.out.now l.out l.n l.left.now c.in-Some.field-0-0.now c.in-Some.rest.now c.in-Some.ensures.cases.0 l.invariant c.if-x-eq19.true in
+    p.long
+
+pub slice_bounds-left-start : goal.slice_bounds-left-start
+slice_bounds-left-start c =
+    let h = slice_bounds-left-count c in
+    search rules
+
+pub bounds-out-n-else-x-eq19 : goal.bounds-out-n-else-x-eq19
+bounds-out-n-else-x-eq19 c =
+    let l = c.loop-x in
+    (plain_here (symbols c.args.body.now) c.args.out.now l.out l.n l.left.now c.in-Some.field-0-0.now c.in-Some.rest.now c.in-Some.ensures.cases.0 l.invariant c.if-x-eq19.false).0
+
+pub loop-x-preserved : goal.loop-x-preserved
+loop-x-preserved c =
+    let l = c.loop-x in
+    let body = c.args.body.now in
+    elim c.if-x-eq19.branch [
+      | then-x-eq19 w ↦
+          let p = pair_here (symbols body) c.args.out.now l.out l.n l.left.now c.in-Some.field-0-0.now c.in-Some.rest.now c.in-Some.ensures.cases.0 l.invariant w.if-x-eq19.true in
+          let k : c.if-x-eq19.left.now ≡ drop 1 c.in-Some.rest.now = ap (λ (b : Bor (List ℕ)). b.now) w.left-is ∙ rest_part c.in-Some.rest.now 1 in
+          rw (w.out-is, k) p.more
+      | else-x-eq19 w ↦
+          let p = plain_here (symbols body) c.args.out.now l.out l.n l.left.now c.in-Some.field-0-0.now c.in-Some.rest.now c.in-Some.ensures.cases.0 l.invariant w.if-x-eq19.false in
+          rw (w.out-is, w.left-is) p.1
+    ]
 
 pub returns : goal.returns
 returns c =
-    let l = c.loop-n in
+    let l = c.loop-x in
     let body = c.args.body.now in
-    let none : symbols l.n-iterator.iter.rest.now ≡ [] = search rules in
-    let u : Undoes (symbols body) c.args.out.now l.out l.n-iterator.count [] = rw (← none) l.invariant.2 in
-    undoes_all (symbols body) c.args.out.now l.out l.n-iterator.count u
+    undoes_end (symbols body) c.args.out.now l.out l.n l.left.now c.in_default.ensures.cases l.invariant
     ∙ ap (λ (p : Option (List ℕ)). over (payload_in p) c.args.out.now) (sym (symbols_given body))

@@ -6,15 +6,16 @@ use native.Mathlib.Omega.{arith}
 use lib.ListN.{length, take, drop}
 use lib.Seq.{take_all}
 use borrow.Author.Tests.{eq-eqb, ne_eqb}
+use Rattle.std.specs.Prelude.{None}
 use Rattle.answer.specs.Pieces.{pieces, rest}
 use Rattle.answer.specs.Claims.{AllPieces}
 use Rattle.answer.proofs.Pieces.{flatten_pieces, pieces_flatten, rest_flatten, all_pieces}
 use Rattle.objects.specs.Tag.{tag_size}
 use Rattle.objects.specs.Object.{Object, object_of, header_size, value_size, object_refusal, object_size, object_in}
 use Rattle.objects.specs.Claims.{AllBytes, Fit}
-use Rattle.objects.proofs.TagSizes.{tag_le}
+use Rattle.objects.specs.Within.{tag_within, object_within}
 use Rattle.objects.proofs.LengthForms.{form_some}
-use Rattle.objects.proofs.Objects.{size_le, size_refusal, object_length, object_in_lem}
+use Rattle.objects.proofs.Objects.{size_refusal, object_length, object_in_lem}
 use Rattle.objects.proofs.OnlyForm.{bytes_left, bytes_right}
 use Rattle.objects.proofs.RoundTrip.{tag_fit, write_gives, fit_writes, size_there, written_object, read_fit, read_written}
 use Rattle.picking.specs.Lists.{fault_in, objects_of, objects_refusal, tags_of, tags_refusal, tag_refusal, written}
@@ -47,7 +48,7 @@ objects_back [] a = refl
 objects_back (o ∷ os) a = rw (written_object o.tag o.value [] (fit o a.0), objects_back os a.1) refl
 
 -- WRITTEN, THEN READ: a list of objects is the same list, with nothing wrong
-pub list_written_read : (os : List Object) → AllWritable os → (objects_of (written os) ≡ os) × (objects_refusal (written os) ≡ 0)
+pub list_written_read : (os : List Object) → AllWritable os → (objects_of (written os) ≡ os) × (objects_refusal (written os) ≡ None)
 list_written_read os a = (
   ap (map object_in) (ap (pieces object_size) (written_flat os) ∙ pieces_flatten object_size object_sizes (map object_bytes os) (all_written os a)) ∙ objects_back os a,
   ap (λ (l : List ℕ). fault_in object_refusal (rest object_size l)) (written_flat os) ∙ ap (fault_in object_refusal) (rest_flatten object_size object_sizes (map object_bytes os) (all_written os a)),
@@ -55,7 +56,7 @@ list_written_read os a = (
 
 -- a piece is the bytes of its object, which can be written
 module _ (p : List ℕ) (bytes : AllBytes p) (whole : object_size p ≡ length p) (some : length p ≡ 0 → ⊥) where
-  right : object_refusal p ≡ 0
+  right : object_refusal p ≡ None
   right = size_refusal p (λ z. some (sym whole ∙ z))
 
   self : take (object_size p) p ≡ p
@@ -79,9 +80,9 @@ pieces_back (p ∷ ps) a b =
     (rw (piece_back p h a.0 a.1, ih.0) refl, (piece_writable p h a.0 a.1, ih.1))
 
 -- READ, THEN WRITTEN: a list of bytes with nothing wrong is the same bytes
-pub list_read_written : (xs : List ℕ) → AllBytes xs → objects_refusal xs ≡ 0 → (written (objects_of xs) ≡ xs) × AllWritable (objects_of xs)
+pub list_read_written : (xs : List ℕ) → AllBytes xs → objects_refusal xs ≡ None → (written (objects_of xs) ≡ xs) × AllWritable (objects_of xs)
 list_read_written xs b e =
-    let f = flatten_pieces object_size size_le xs (objects_whole xs e) in
+    let f = flatten_pieces object_size object_within xs (objects_whole xs e) in
     let r = pieces_back (pieces object_size xs) (all_pieces object_size object_sizes xs) (subst AllBytes (sym f) b) in
     (r.0 ∙ f, r.1)
 
@@ -93,15 +94,15 @@ all_tags (t ∷ ts) a =
     let f = tag_fit t a.0 in
     (f.0, (λ z. f.1 (f.0 ∙ z)), all_tags ts a.1)
 
-tags_all : (ts : List (List ℕ)) → AllPieces tag_size ts → AllTags ts
+pub tags_all : (ts : List (List ℕ)) → AllPieces tag_size ts → AllTags ts
 tags_all [] a = tt
 tags_all (t ∷ ts) a = (simp (ne_eqb (length t) 0 a.1, eq-eqb (tag_size t) (length t) a.0), tags_all ts a.2)
 
 -- WRITTEN, THEN READ: a list of tags is the same list, with nothing wrong
-pub tags_written_read : (ts : List (List ℕ)) → AllTags ts → (tags_of (flatten ts) ≡ ts) × (tags_refusal (flatten ts) ≡ 0)
+pub tags_written_read : (ts : List (List ℕ)) → AllTags ts → (tags_of (flatten ts) ≡ ts) × (tags_refusal (flatten ts) ≡ None)
 tags_written_read ts a =
     (pieces_flatten tag_size tag_sizes ts (all_tags ts a), ap (fault_in tag_refusal) (rest_flatten tag_size tag_sizes ts (all_tags ts a)))
 
 -- READ, THEN WRITTEN: a tag list with nothing wrong is the same bytes, and each of its tags is one
-pub tags_read_written : (xs : List ℕ) → tags_refusal xs ≡ 0 → (flatten (tags_of xs) ≡ xs) × AllTags (tags_of xs)
-tags_read_written xs e = (flatten_pieces tag_size tag_le xs (tags_whole xs e), tags_all (tags_of xs) (all_pieces tag_size tag_sizes xs))
+pub tags_read_written : (xs : List ℕ) → tags_refusal xs ≡ None → (flatten (tags_of xs) ≡ xs) × AllTags (tags_of xs)
+tags_read_written xs e = (flatten_pieces tag_size tag_within xs (tags_whole xs e), tags_all (tags_of xs) (all_pieces tag_size tag_sizes xs))

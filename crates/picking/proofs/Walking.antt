@@ -1,209 +1,119 @@
--- The walk over tags and objects: one turn of each of its loops, as an equation on what is left to pick.
+-- The two walks over a tag list: one turn of each, and what they say of the call.
 use mathlib.Core.Path.{◌≡◌, refl, sym, ap, ◌∙◌, subst}
 use mathlib.Core.Bool.{Bool, true, false, cond}
-use mathlib.Core.List.{List, [], ◌∷◌, ◌++◌, map, append_assoc, append-nil}
-use Prim.Native.Nat.{ℕ, ◌+◌, ◌-◌, ◌≤◌, ◌<◌}
+use mathlib.Core.List.{List, [], ◌∷◌, ◌++◌}
+use Prim.Native.Nat.{ℕ, ◌+◌, ◌≤◌}
 use native.Mathlib.Omega.{arith}
-use lib.ListN.{length, take, drop, length-append, length-drop, drop_of_length-le}
-use lib.Seq.{length-take-le}
+use lib.ListN.{length, take, drop, length-append, length-drop}
+use lib.Seq.{take_at, drop_at, drop-drop, take-add, take_all, length-take-le}
 use lib.Dec.{ltb}
-use borrow.Author.Tests.{lt-ltb, le-ltb, ltb-false, eq-eqb, ne_eqb}
-use Rattle.answer.specs.declared.Answer.{Answer}
-use Rattle.answer.specs.Answers.{within, over, answer_of}
-use Rattle.answer.specs.Answers.Result.{Good, Refused}
-use Rattle.answer.specs.Laid.{pasted}
-use Rattle.answer.specs.Pieces.{pieces_from}
-use Rattle.answer.proofs.Laid.{over_more, over_long}
-use Rattle.answer.proofs.Pieces.{piece_more}
-use Rattle.answer.proofs.Parts.{part_add}
-use Rattle.objects.specs.declared.ObjectRead.{ObjectRead}
-use Rattle.objects.specs.Tag.{tag_size}
-use Rattle.objects.specs.Object.{Object, header_size, value_size, object_of, object_refusal, object_size, object_in}
+use borrow.Author.Tests.{ltb-true, ltb-false}
+use Rattle.std.specs.Prelude.{Option, Some, None, Result, Ok, Err}
+use Rattle.answer.specs.declared.refusal.Refusal.{Refusal}
+use Rattle.answer.specs.declared.refusal.Refusal.TheVariants.{NoRoom}
+use Rattle.answer.specs.Answers.{Gives, over}
+use Rattle.answer.specs.Laid.{pasted, Puts, PutIf}
+use Rattle.answer.specs.Pieces.{pieces}
+use Rattle.answer.specs.Claims.{AllPieces}
+use Rattle.answer.proofs.Laws.{gives_as, gives_none, gives_good}
+use Rattle.answer.proofs.Laid.{over_more, over_long, pasted_start, put_fits}
+use Rattle.answer.proofs.Pieces.{all_pieces}
+use Rattle.objects.specs.Tag.{tag_size, is_tag}
+use Rattle.objects.specs.Object.{unless}
 use Rattle.objects.specs.Claims.{AllBytes}
-use Rattle.objects.proofs.TagSizes.{tag_le}
-use Rattle.objects.proofs.Objects.{size_le, size_refusal, object_in_lem, read_good}
-use Rattle.objects.proofs.OnlyForm.{bytes_drop}
-use Rattle.objects.proofs.RoundTrip.{read_written}
-use Rattle.picking.specs.Lists.{objects_of, tags_of, objects_refusal, tags_refusal}
-use Rattle.picking.specs.Pick.{same, is_withheld, shown, first_of, picked, picked_of, pick}
-use Rattle.picking.specs.Steps.{Piece, ObjectAt, shown_at, Shows, Walks}
+use Rattle.picking.specs.Lists.{objects_refusal, tags_refusal}
+use Rattle.picking.specs.Pick.{pick}
+use Rattle.picking.specs.Claims.{first_piece, picked_pieces, pieces_picked}
+use Rattle.picking.proofs.Lists.{tag_sizes}
+use Rattle.picking.proofs.ListRoundTrip.{tags_all}
+use Rattle.picking.proofs.Withheld.{picked_as_they_stand}
 
--- ---- the object at j
+-- ---- one turn: a tag t is taken from the tags xs, and ys are left
 
-module _ (xs : List ℕ) (j : ℕ) (r : ObjectRead) (o : ObjectAt xs j r) where
-  -- its bytes
-  abbrev bytes : List ℕ
-  bytes = take r.whole (drop j xs)
+module _ (xs ys t : List ℕ) (e : pieces tag_size xs ≡ t ∷ pieces tag_size ys) where
+  pub turn_tag : is_tag t ≡ true
+  turn_tag = (tags_all (t ∷ pieces tag_size ys) (subst (AllPieces tag_size) e (all_pieces tag_size tag_sizes xs))).0
 
-  good : object_refusal (drop j xs) ≡ 0
-  good = size_refusal (drop j xs) (λ z. o.piece.some (o.piece.is ∙ z))
+  pub turn_bytes : (ps : List (List ℕ)) → picked_pieces (pieces tag_size xs) ps ≡ first_piece t ps ++ picked_pieces (pieces tag_size ys) ps
+  unfolding picked_pieces
+  turn_bytes ps = ap (λ (l : List (List ℕ)). picked_pieces l ps) e
 
-  object_is : object_in bytes ≡ record { tag = take (tag_size (drop j xs)) (drop j xs); value = take (value_size (drop j xs)) (drop (header_size (drop j xs)) (drop j xs)) }
-  object_is = ap (λ (k : ℕ). object_in (take k (drop j xs))) o.piece.is ∙ object_in_lem (drop j xs) good
+  pub turn_length : (ps : List (List ℕ)) → length (picked_pieces (pieces tag_size xs) ps) ≡ length (first_piece t ps) + length (picked_pieces (pieces tag_size ys) ps)
+  turn_length ps = ap length (turn_bytes ps) ∙ length-append (first_piece t ps) (picked_pieces (pieces tag_size ys) ps)
 
-  pub tag_is : (object_in bytes).tag ≡ take r.tag (drop j xs)
-  tag_is =
-      let t : r.tag ≡ tag_size (drop j xs) = ap (λ (x : ObjectRead). x.tag) (o.is ∙ read_good (drop j xs) good) in
-      ap (λ (x : Object). x.tag) object_is ∙ ap (λ (k : ℕ). take k (drop j xs)) (sym t)
+-- no tag is left
+pub turn_none : (xs : List ℕ) (ps : List (List ℕ)) → pieces tag_size xs ≡ [] → picked_pieces (pieces tag_size xs) ps ≡ []
+unfolding picked_pieces
+turn_none xs ps e = ap (λ (l : List (List ℕ)). picked_pieces l ps) e
 
-  pub objects_more : objects_of (drop j xs) ≡ object_in bytes ∷ objects_of (drop (j + r.whole) xs)
-  objects_more = ap (map object_in) (piece_more object_size size_le xs j r.whole o.piece.is o.piece.some)
+-- ---- the walk that writes: of `all` the first `at` bytes stand over `before`
 
-  -- ---- what is written of it
+pub record Written (all before : List ℕ) (left : List ℕ) (at : ℕ) (out : List ℕ) : Type 0 where
+  pub within : at ≤ length all
+  pub rests : drop at all ≡ left
+  pub bytes : out ≡ over (take at all) before
 
-  withheld_as : (b : Bool) → is_withheld (take (j + r.tag - j) (drop j xs)) ≡ b → is_withheld (object_in bytes).tag ≡ b
-  withheld_as b e = ap is_withheld (tag_is ∙ sym (part_add (drop j xs) j r.tag)) ∙ e
-
-  -- nothing
-  pub shows_none : is_withheld (take (j + r.tag - j) (drop j xs)) ≡ true → Shows xs j r 0
-  unfolding shown
-  shows_none e =
-      let s : shown_at xs j r ≡ [] = simp (withheld_as true e) in
-      let l = o.piece.within in
-      record { bytes = s; size = sym (ap length s); within = omega arith }
-
-  -- all of it, as it stands, since no length has two forms
-  pub shows_all : AllBytes xs → is_withheld (take (j + r.tag - j) (drop j xs)) ≡ false → Shows xs j r r.whole
-  unfolding shown
-  shows_all b e =
-      let l = o.piece.within in
-      let back : object_of (object_in bytes).tag (object_in bytes).value ≡ bytes =
-      ap (λ (x : Object). object_of x.tag x.value) object_is ∙ read_written (drop j xs) (bytes_drop j xs b) good ∙ ap (λ (k : ℕ). take k (drop j xs)) (sym o.piece.is) in
-      let s : shown_at xs j r ≡ bytes = simp (withheld_as false e) back in
-      record { bytes = s; size = sym (ap length s ∙ length-take-le r.whole (drop j xs) (simp length-drop (omega arith))); within = l }
-
--- ---- what is left to pick
-
-module _ (tags objects : List ℕ) where
-  -- from the tag at i on
-  abbrev pub Left : ℕ → List ℕ
-  Left i = picked (tags_of (drop i tags)) (objects_of objects)
-
-  -- for the tag t, from the object at j on, and then from the tag at i on
-  abbrev pub Seeking : List ℕ → ℕ → ℕ → List ℕ
-  Seeking t j i = first_of t (objects_of (drop j objects)) ++ Left i
-
-  -- a tag is taken up
-  pub take_up : (i n : ℕ) → Piece tag_size tags i n → Left i ≡ Seeking (take n (drop i tags)) 0 (i + n)
-  unfolding picked
-  take_up i n p = ap (λ (l : List (List ℕ)). picked l (objects_of objects)) (piece_more tag_size tag_le tags i n p.is p.some)
-
-  -- no tag is left
-  pub all_done : (i : ℕ) → length tags ≤ i → Left i ≡ []
-  unfolding picked pieces_from
-  all_done i h = simp (drop_of_length-le tags {i = i} h)
-
-  -- the tag is absent
-  pub absent : (t : List ℕ) (j i : ℕ) → length objects ≤ j → Seeking t j i ≡ Left i
-  unfolding first_of pieces_from
-  absent t j i h = simp (drop_of_length-le objects {i = j} h)
-
-  module _ (t : List ℕ) (j i : ℕ) (r : ObjectRead) (o : ObjectAt objects j r) where
-    seek : (b : Bool) → same t (take r.tag (drop j objects)) ≡ b
-        → first_of t (objects_of (drop j objects)) ≡ cond b (shown_at objects j r) (first_of t (objects_of (drop (j + r.whole) objects)))
-    unfolding first_of
-    seek b e =
-        ap (first_of t) (objects_more objects j r o)
-        ∙ ap (λ (c : Bool). cond c (shown_at objects j r) (first_of t (objects_of (drop (j + r.whole) objects)))) (ap (same t) (tag_is objects j r o) ∙ e)
-
-    -- the first match
-    pub match : (b : Bool) → b ≡ same t (take r.tag (drop j objects)) → b ≡ true → Seeking t j i ≡ shown_at objects j r ++ Left i
-    match b e f = ap (λ (l : List ℕ). l ++ Left i) (seek true (sym e ∙ f))
-
-    -- no match here
-    pub pass : (b : Bool) → b ≡ same t (take r.tag (drop j objects)) → b ≡ false → Seeking t j i ≡ Seeking t (j + r.whole) i
-    pass b e f = ap (λ (l : List ℕ). l ++ Left i) (seek false (sym e ∙ f))
-
--- ---- how far the walk has come
-
--- of `all`, `left` is left to pick; what is done has `at` bytes, for which there is room, and stands over the start of `out`, if the walk writes
-pub record Walked (all before : List ℕ) (writing : Bool) (left out : List ℕ) (at : ℕ) : Type 0 where
-  pub done : List ℕ
-  pub whole : done ++ left ≡ all
-  pub place : at ≡ length done
-  pub room : at ≤ length before
-  pub bytes : out ≡ cond writing (over done before) before
-
-module _ (all before : List ℕ) (writing : Bool) (left out : List ℕ) (at : ℕ) (w : Walked all before writing left out at) where
-  pub walked_as : (left' : List ℕ) → left ≡ left' → Walked all before writing left' out at
-  walked_as left' e = subst (λ (l : List ℕ). Walked all before writing l out at) e w
-
-  -- the room stays what it was
-  pub walked_size : length out ≡ length before
-  walked_size = cases writing w.bytes
-    where
-      cases : (b : Bool) → out ≡ cond b (over w.done before) before → length out ≡ length before
-      cases true e = let p = w.place in let r = w.room in ap length e ∙ over_long w.done before (omega arith)
-      cases false e = ap length e
-
-  module _ (s more : List ℕ) (e : left ≡ s ++ more) where
-    longer : (w.done ++ s) ++ more ≡ all
-    longer = append_assoc w.done s more ∙ ap (λ (l : List ℕ). w.done ++ l) (sym e) ∙ w.whole
-
-    full : length out - at < length s → length before < length all
-    full h =
-        let z = walked_size in
-        let p = w.place in
-        let n = sym (ap length longer) ∙ length-append (w.done ++ s) more in
-        let m = length-append w.done s in
-        omega arith
-
-    -- there is no room for what comes next, so this is not the walk that writes
-    pub walked_full : length out - at < length s → (writing ≡ true → length all ≤ length before) → (r : Answer) → r ≡ answer_of (Refused 1) → Walks all before writing r out
-    walked_full h f r q = cases writing f w.bytes
-      where
-        cases : (b : Bool) → (b ≡ true → length all ≤ length before) → out ≡ cond b (over w.done before) before → Walks all before b r out
-        cases true g e = absurd (let l = full h in let m = g refl in omega arith)
-        cases false g e = record { answer = q ∙ sym (simp (lt-ltb (length before) (length all) (full h))); bytes = e }
-
-    -- what comes next is put at its place
-    pub walked_more : (n : ℕ) (out' : List ℕ) → n ≡ length s → at + n ≤ length before → out' ≡ cond writing (pasted out at s) out → Walked all before writing more out' (at + n)
-    walked_more n out' q h b =
-        let p = w.place in
-        let m = length-append w.done s in
-        record { done = w.done ++ s; whole = longer; place = omega arith; room = h; bytes = cases writing b w.bytes }
-      where
-        cases : (b : Bool) → out' ≡ cond b (pasted out at s) out → out ≡ cond b (over w.done before) before → out' ≡ cond b (over (w.done ++ s) before) before
-        cases true p q = p ∙ ap (λ (l : List ℕ). pasted l at s) q ∙ ap (λ (n : ℕ). pasted (over w.done before) n s) w.place ∙ over_more w.done s before
-        cases false p q = p ∙ q
-
-  -- nothing is left
-  pub walked_all : left ≡ [] → (r : Answer) → r ≡ record { refusal = 0; length = at } → Walks all before writing r out
-  walked_all e r q =
-      let d : w.done ≡ all = sym (append-nil w.done) ∙ ap (λ (l : List ℕ). w.done ++ l) (sym e) ∙ w.whole in
-      let n : at ≡ length all = w.place ∙ ap length d in
-      let h : length all ≤ length before = let r = w.room in omega arith in
+module _ (all before left : List ℕ) (at : ℕ) (out : List ℕ) (fits : length all ≤ length before) (w : Written all before left at out) where
+  pub write_more : (s more : List ℕ) (r : ℕ) (out' : List ℕ) → left ≡ s ++ more → PutIf out at s r out' → Written all before more r out'
+  write_more s more r out' e p =
+      let h = w.within in
+      let d : drop at all ≡ s ++ more = w.rests ∙ e in
+      let n : length all ≡ at + (length s + length more) = let l = ap length d in let m = length-append s more in omega (arith, simp length-drop at l) in
+      let t = length-take-le at all h in
+      let o : length out ≡ length before = ap length w.bytes ∙ over_long (take at all) before (omega arith) in
+      let q = put_fits out at s r out' (omega arith) p in
+      let i = q.next in
+      let k : take (at + length s) all ≡ take at all ++ s = take-add at (length s) all ∙ ap (λ (l : List ℕ). take at all ++ l) (ap (take (length s)) d ∙ take_at s more (length s) refl) in
+      let b : out' ≡ over (take at all ++ s) before =
+      q.bytes ∙ ap (λ (l : List ℕ). pasted l at s) w.bytes ∙ ap (λ (m : ℕ). pasted (over (take at all) before) m s) (sym t) ∙ over_more (take at all) s before in
       record {
-        answer = q ∙ ap (λ (k : ℕ). record { refusal = 0; length = k }) n ∙ sym (simp (le-ltb (length before) (length all) h));
-        bytes = w.bytes ∙ ap (λ (l : List ℕ). cond writing (over l before) before) d;
+        within = omega arith;
+        rests = ap (λ (m : ℕ). drop m all) i ∙ sym (drop-drop (length s) at all) ∙ ap (drop (length s)) d ∙ drop_at s more (length s) refl;
+        bytes = b ∙ ap (λ (l : List ℕ). over l before) (sym k ∙ ap (λ (m : ℕ). take m all) (sym i));
       }
 
--- ---- what the two walks say of the call
+  pub write_all : left ≡ [] → Puts before 0 all at out
+  write_all e =
+      let h = w.within in
+      let l = ap length (w.rests ∙ e) in
+      let n : at ≡ length all = omega (arith, simp length-drop at l) in
+      record { bytes = w.bytes ∙ ap (λ (l : List ℕ). over l before) (take_all at all (omega arith)) ∙ sym (pasted_start all before); next = omega arith }
 
-module _ (s out : List ℕ) (r : Answer) (out' : List ℕ) where
-  answered : (t : Bool) → ltb (length out) (length s) ≡ t → r ≡ answer_of (within (length out) (Good s)) → r ≡ answer_of (cond t (Refused 1) (Good s))
-  answered t e a = a ∙ ap (λ (b : Bool). answer_of (cond b (Refused 1) (Good s))) e
+-- ---- what the steps say of the call
 
-  -- a measuring walk with no refusal: there is room
-  pub walks_fits : Walks s out false r out' → r.refusal ≡ 0 → length s ≤ length out
-  walks_fits w z = cases (ltb (length out) (length s)) refl
-    where
-      cases : (t : Bool) → ltb (length out) (length s) ≡ t → length s ≤ length out
-      cases true e = absurd (let o : r.refusal ≡ 1 = ap (λ (x : Answer). x.refusal) (answered true e w.answer) in omega arith)
-      cases false e = ltb-false (length out) (length s) e
+pub no_fault : (o : Option Refusal) → (let a : Result (Unit {0}) Refusal = Ok tt in a) ≡ unless o (Ok tt) → o ≡ None
+no_fault None e = refl
+no_fault (Some w) e = absurd cc
 
--- ---- the picker, by its tests
+module _ (tags objects out : List ℕ) (bytes : AllBytes objects) (t : tags_refusal tags ≡ None) (o : objects_refusal objects ≡ None) where
+  abbrev measured : Result (Unit {0}) Refusal
+  measured = cond (ltb (length out) (length (pieces_picked tags objects))) (Err NoRoom) (Ok tt)
 
-module _ (tags objects : List ℕ) where
-  pub pick_tags : (r : ℕ) → r ≡ tags_refusal tags → (r ≡ 0 → ⊥) → pick tags objects ≡ Refused r
+  picks : pick tags objects ≡ Ok (pieces_picked tags objects)
   unfolding pick
-  pick_tags r e h = simp (ne_eqb (tags_refusal tags) 0 (λ z. h (e ∙ z)), e)
+  picks = simp (t, o) (ap Ok (picked_as_they_stand tags objects bytes o))
 
-  module _ (t : tags_refusal tags ≡ 0) where
-    pub pick_objects : (r : ℕ) → r ≡ objects_refusal objects → (r ≡ 0 → ⊥) → pick tags objects ≡ Refused r
-    unfolding pick
-    pick_objects r e h = simp (eq-eqb (tags_refusal tags) 0 t, ne_eqb (objects_refusal objects) 0 (λ z. h (e ∙ z)), e)
+  pub picks_none : (w : Refusal) (r : Result ℕ Refusal) → (let a : Result (Unit {0}) Refusal = Err w in a) ≡ measured → r ≡ Err w → Gives (pick tags objects) out r out
+  picks_none w r m e = cases (ltb (length out) (length (pieces_picked tags objects))) refl m
+    where
+      cases : (b : Bool) → ltb (length out) (length (pieces_picked tags objects)) ≡ b → (let a : Result (Unit {0}) Refusal = Err w in a) ≡ cond b (Err NoRoom) (Ok tt)
+          → Gives (pick tags objects) out r out
+      cases false l n = absurd cc
+      cases true l n =
+          let i : w ≡ NoRoom = cc in
+          gives_as out out r picks (gives_none (pieces_picked tags objects) out r (ltb-true (length out) (length (pieces_picked tags objects)) l) (e ∙ ap Err i))
 
-    pub pick_good : objects_refusal objects ≡ 0 → pick tags objects ≡ Good (picked_of tags objects)
-    unfolding pick
-    pick_good e = simp (eq-eqb (tags_refusal tags) 0 t, eq-eqb (objects_refusal objects) 0 e)
+  picks_fit : (let a : Result (Unit {0}) Refusal = Ok tt in a) ≡ measured → length (pieces_picked tags objects) ≤ length out
+  picks_fit m = cases (ltb (length out) (length (pieces_picked tags objects))) refl m
+    where
+      cases : (b : Bool) → ltb (length out) (length (pieces_picked tags objects)) ≡ b → (let a : Result (Unit {0}) Refusal = Ok tt in a) ≡ cond b (Err NoRoom) (Ok tt)
+          → length (pieces_picked tags objects) ≤ length out
+      cases true l n = absurd cc
+      cases false l n = ltb-false (length out) (length (pieces_picked tags objects)) l
+
+  pub picks_all : (n : ℕ) (out' : List ℕ) → (let a : Result (Unit {0}) Refusal = Ok tt in a) ≡ measured → Puts out 0 (pieces_picked tags objects) n out' → Gives (pick tags objects) out (Ok n) out'
+  picks_all n out' m p =
+      let h = picks_fit m in
+      let i = p.next in
+      let e : n ≡ length (pieces_picked tags objects) = omega arith in
+      gives_as out out' (Ok n) picks (gives_good (pieces_picked tags objects) out out' (Ok n) h (ap Ok e) (p.bytes ∙ pasted_start (pieces_picked tags objects) out))

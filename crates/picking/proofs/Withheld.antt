@@ -3,12 +3,13 @@ use mathlib.Core.Path.{◌≡◌, refl, sym, ap, ◌∙◌, subst}
 use mathlib.Core.Bool.{Bool, true, false, cond}
 use mathlib.Core.List.{List, [], ◌∷◌, ◌++◌, map, flatten, append-nil, append_assoc}
 use Prim.Native.Nat.{ℕ}
+use Rattle.std.specs.Prelude.{None}
 use Rattle.answer.specs.Pieces.{pieces}
 use Rattle.answer.specs.Claims.{AllPieces}
 use Rattle.answer.proofs.Pieces.{all_pieces, flatten_pieces}
 use Rattle.objects.specs.Object.{Object, object_of, object_in, object_size}
 use Rattle.objects.specs.Claims.{AllBytes}
-use Rattle.objects.proofs.Objects.{size_le}
+use Rattle.objects.specs.Within.{object_within}
 use Rattle.objects.proofs.OnlyForm.{bytes_left, bytes_right}
 use Rattle.picking.specs.Lists.{objects_of, objects_refusal, tags_of, written}
 use Rattle.picking.specs.Pick.{same, is_withheld, shown, first_of, picked, picked_of}
@@ -30,9 +31,9 @@ picked_stands [] ps a b = refl
 picked_stands (t ∷ ts) ps a b = rw (first_stands t ps a b, picked_stands ts ps a b) refl
 
 -- WHAT IS PICKED are objects of the list as they stand there, byte for byte
-pub picked_as_they_stand : (tags objects : List ℕ) → AllBytes objects → objects_refusal objects ≡ 0 → picked_of tags objects ≡ picked_pieces (tags_of tags) (pieces object_size objects)
+pub picked_as_they_stand : (tags objects : List ℕ) → AllBytes objects → objects_refusal objects ≡ None → picked_of tags objects ≡ picked_pieces (tags_of tags) (pieces object_size objects)
 picked_as_they_stand tags objects b e =
-    let f = flatten_pieces object_size size_le objects (objects_whole objects e) in
+    let f = flatten_pieces object_size object_within objects (objects_whole objects e) in
     picked_stands (tags_of tags) (pieces object_size objects) (all_pieces object_size object_sizes objects) (subst AllBytes (sym f) b)
 
 -- ---- none withheld
@@ -94,8 +95,8 @@ fine [] os a = record { writable = tt; allowed = tt }
 fine (t ∷ ts) os a = fine_append (chosen_for t os) (chosen ts os) (fine_for t os a) (fine ts os a)
 
 -- NO OBJECT THAT IS WITHHELD: what is picked is a list of objects with nothing wrong, and none of them is 56h, 57h or 5Ah
-pub never_withheld : (tags objects : List ℕ) → AllBytes objects → objects_refusal objects ≡ 0
-    → (objects_refusal (picked_of tags objects) ≡ 0) × NoneWithheld (objects_of (picked_of tags objects))
+pub never_withheld : (tags objects : List ℕ) → AllBytes objects → objects_refusal objects ≡ None
+    → (objects_refusal (picked_of tags objects) ≡ None) × NoneWithheld (objects_of (picked_of tags objects))
 never_withheld tags objects b e =
     let f = fine (tags_of tags) (objects_of objects) (list_read_written objects b e).1 in
     let p = picked_chosen (tags_of tags) (objects_of objects) in

@@ -1,8 +1,8 @@
 -- The terms of the theorems on lists and on what is picked.
-use Rattle.std.specs.Prelude.{◌≡◌, true, false, cond, List, [], ◌∷◌, ◌++◌, ℕ}
-use Rattle.answer.specs.Answers.Result.{Good}
-use Rattle.objects.specs.Tag.{is_tag}
-use Rattle.objects.specs.Object.{Object, object_of, write_object, object_in}
+use Rattle.std.specs.Prelude.{◌≡◌, true, false, cond, List, [], ◌∷◌, ◌++◌, ℕ, Ok}
+use Rattle.answer.specs.Pieces.{pieces}
+use Rattle.objects.specs.Tag.{tag_size, is_tag}
+use Rattle.objects.specs.Object.{Object, object_of, write_object, object_in, object_size}
 use Rattle.picking.specs.Pick.{same, is_withheld}
 
 -- ---- lists that can be written
@@ -12,7 +12,7 @@ object_bytes o = object_of o.tag o.value
 
 -- an object that the writer gives
 abbrev pub Writable : Object → Type 0
-Writable o = write_object o.tag o.value ≡ Good (object_bytes o)
+Writable o = write_object o.tag o.value ≡ Ok (object_bytes o)
 
 abbrev pub AllWritable : List Object → Type 0
 AllWritable [] = Unit {0}
@@ -33,6 +33,10 @@ first_piece t (p ∷ ps) = cond (same t (object_in p).tag) (cond (is_withheld (o
 unfoldable pub picked_pieces : List (List ℕ) → List (List ℕ) → List ℕ
 picked_pieces [] ps = []
 picked_pieces (t ∷ ts) ps = first_piece t ps ++ picked_pieces ts ps
+
+-- from the bytes of an object list for the bytes of a tag list
+abbrev pub pieces_picked : List ℕ → List ℕ → List ℕ
+pieces_picked tags objects = picked_pieces (pieces tag_size tags) (pieces object_size objects)
 
 -- none of these is 56h, 57h or 5Ah
 abbrev pub NoneWithheld : List Object → Type 0

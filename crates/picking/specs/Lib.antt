@@ -1,5 +1,4 @@
--- In the order of reading. `Steps` serves the private functions alone: no promise cites it.
+-- In the order of reading.
 pub mod Lists
 pub mod Pick
 pub mod Claims
-pub mod Steps

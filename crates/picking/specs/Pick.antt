@@ -1,8 +1,7 @@
 -- Picking objects for a tag list (scope paper, sections Data objects and Numbered refusals of calls).
-use Rattle.std.specs.Prelude.{ℕ, Bool, true, false, ◌&&◌, ◌||◌, cond, List, [], ◌∷◌, ◌++◌, eqb}
-use Rattle.answer.specs.Answers.{Result}
-use Rattle.answer.specs.Answers.Result.{Good, Refused}
-use Rattle.objects.specs.Object.{Object, object_of}
+use Rattle.std.specs.Prelude.{ℕ, Bool, true, false, ◌&&◌, ◌||◌, cond, List, [], ◌∷◌, ◌++◌, eqb, Ok}
+use Rattle.answer.specs.Answers.{Output}
+use Rattle.objects.specs.Object.{Object, object_of, unless}
 use Rattle.picking.specs.Lists.{objects_of, tags_of, objects_refusal, tags_refusal}
 
 -- two lists of bytes are equal
@@ -34,10 +33,6 @@ picked (tag ∷ tags) os = first_of tag os ++ picked tags os
 abbrev pub picked_of : List ℕ → List ℕ → List ℕ
 picked_of tags objects = picked (tags_of tags) (objects_of objects)
 
--- a fault that is found refuses; 0 is none
-abbrev pub unless : ℕ → Result → Result
-unless number more = cond (eqb number 0) more (Refused number)
-
 -- THE PICKER: 30 to 32 by the first bad place, the tag list before the objects (and 1, by the promise)
-unfoldable pub pick : List ℕ → List ℕ → Result
-pick tags objects = unless (tags_refusal tags) (unless (objects_refusal objects) (Good (picked_of tags objects)))
+unfoldable pub pick : List ℕ → List ℕ → Output
+pick tags objects = unless (tags_refusal tags) (unless (objects_refusal objects) (Ok (picked_of tags objects)))

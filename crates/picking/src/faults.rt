@@ -1,38 +1,33 @@
 // What is wrong with a tag list, and with an object list (scope paper, section Data objects).
-ghost use Rattle.std.specs.Prelude.{◌≡◌};
+ghost use Rattle.std.specs.Prelude.{◌≡◌, Ok};
+ghost use Rattle.objects.specs.Object.{unless};
 ghost use Rattle.picking.specs.Lists.{tags_refusal, objects_refusal};
 
-use objects::read_object;
-use objects::tags::tag_size;
+use answer::Refusal;
+use answer::walk::{is_whole, rest_of};
+use objects::tags::Tag;
+use objects::{Object, read_object};
 
-// 30 where the bytes are not tags one after another, else 0.
-#[tactic(auto, using(crate::proofs::Lists::tag_sizes, crate::proofs::Lists::fault_done))]
-pub(crate) fn tags_refusal(tags: &[u8]) -> u8
-    ensures { result ≡ tags_refusal tags.now }
+// 30 where the bytes are not tags one after another.
+#[tactic(auto, using(crate::proofs::Lists::tags_good, crate::proofs::Lists::tags_bad))]
+pub(crate) fn check_tags(tags: &[u8]) -> Result<(), Refusal>
+    ensures { result ≡ unless (tags_refusal tags.now) (Ok tt) }
 {
-    let mut i = 0;
-    while i < tags.len() {
-        let size = tag_size(&tags[i..]);
-        if size == 0 {
-            return 30;
-        }
-        i += size;
+    if is_whole::<Tag>(tags) {
+        Ok(())
+    } else {
+        Err(Refusal::NoTag)
     }
-    0
 }
 
-// The number of what is wrong with the first bad object, 0 where all are good.
-#[tactic(auto, using(crate::proofs::Lists::whole_inside, crate::proofs::Lists::whole_some, crate::proofs::Lists::object_sizes, crate::proofs::Lists::fault_done))]
-pub(crate) fn objects_refusal(objects: &[u8]) -> u8
-    ensures { result ≡ objects_refusal objects.now }
+// What is wrong with the first bad object, if one is. It stands where the objects stop.
+#[tactic(auto, using(crate::proofs::Lists::objects_good, crate::proofs::Lists::objects_bad, crate::proofs::Lists::objects_no))]
+pub(crate) fn check_objects(objects: &[u8]) -> Result<(), Refusal>
+    ensures { result ≡ unless (objects_refusal objects.now) (Ok tt) }
 {
-    let mut j = 0;
-    while j < objects.len() {
-        let object = read_object(&objects[j..]);
-        if object.refusal != 0 {
-            return object.refusal;
-        }
-        j += object.whole;
+    let left = rest_of::<Object>(objects);
+    if !left.is_empty() {
+        read_object(left)?;
     }
-    0
+    Ok(())
 }

@@ -1,13 +1,14 @@
 -- Length forms: the one form of a length, in their place, and there and back.
-use mathlib.Core.Path.{◌≡◌, refl}
+use mathlib.Core.Path.{◌≡◌, refl, sym}
 use mathlib.Core.Bool.{Bool, true, false, cond}
 use mathlib.Core.List.{List, [], ◌∷◌, ◌++◌}
 use Prim.Native.Nat.{ℕ, zero, suc, ◌+◌, ◌*◌, ◌/◌, ◌%◌, ◌≤◌, ◌<◌}
 use native.Mathlib.Omega.{arith}
-use lib.ListN.{length, take}
+use lib.ListN.{length, take, get_or}
 use lib.Dec.{ltb, eqb}
 use borrow.Author.Tests.{lt-ltb, le-ltb}
 use native.Mathlib.Nat.{div-add-mod'}
+use Rattle.std.proofs.Common.{Fits, w8}
 use Rattle.std.specs.Prelude.{Option, Some, None}
 use Rattle.objects.specs.declared.forms.Form.{Form}
 use Rattle.objects.specs.LengthForm.{form, form_of, after81, after82, form_at, size_in}
@@ -199,3 +200,16 @@ form_some n = cases (ltb n 0x80) (ltb n 0x100)
     cases true t z = omega arith
     cases false true z = omega arith
     cases false false z = omega arith
+
+-- ---- a step of the code: 82h and a high byte of 0 start no form
+
+pub no_high : (p : List ℕ) → ((i : ℕ) → Fits w8 (get_or p i 0)) → 3 ≤ length p → get_or p 0 0 ≡ 0x82 → get_or p 1 0 ≡ 0 → None ≡ form_at p
+unfolding form_at after82
+no_high [] known h a b = absurd (omega arith)
+no_high (x ∷ []) known h a b = absurd (omega arith)
+no_high (x ∷ y ∷ []) known h a b = absurd (omega arith)
+no_high (x ∷ y ∷ z ∷ xs) known h a b =
+    let f : Fits w8 z = known 2 in
+    let k : z < 256 = omega (arith, f) in
+    let l = lt-ltb (y * 256 + z) 0x100 (omega arith) in
+    sym (simp (a, l))

@@ -11,7 +11,7 @@ pub(crate) struct Form {
 }
 
 // The length form that `p` starts with.
-#[tactic(auto, unfolding(crate::specs::LengthForm::form_at, crate::specs::LengthForm::after81, crate::specs::LengthForm::after82))]
+#[tactic(auto, using(crate::proofs::LengthForms::no_high), unfolding(crate::specs::LengthForm::form_at, crate::specs::LengthForm::after81, crate::specs::LengthForm::after82))]
 pub(crate) fn form_at(p: &[u8]) -> Option<Form>
     ensures { result ≡ form_at p.now }
 {

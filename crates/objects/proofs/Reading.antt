@@ -18,7 +18,7 @@ use Rattle.objects.specs.LengthForm.{form_at, size_in, value_in}
 use Rattle.objects.specs.Object.{header_size, value_size, object_refusal, object_size, read_of}
 use Rattle.objects.specs.Within.{tag_within}
 use Rattle.objects.proofs.LengthForms.{form_le}
-use Rattle.objects.proofs.Objects.{Sound, sound_parts, sound_refusal, read_good, read_bad, size_good, size_bad, size_some}
+use Rattle.objects.proofs.Objects.{Sound, sound_refusal, read_good, read_bad, size_good, size_bad, size_some}
 
 -- ---- the steps of the code
 
@@ -77,13 +77,7 @@ module _ (xs : List ℕ) where
               → ◌≡◌ {A = Result ObjectRead Refusal} (Ok (record { tag = a; header = a + c; whole = a + c + p })) (Ok (record { tag = b; header = b + d; whole = b + d + q }))
           lengths x y z = rw (x, y, z) refl
 
--- ---- the object as a piece
-
--- the tag stands within the header, the header within the object, and the object within the bytes
-pub record Nested (xs : List ℕ) (r : ObjectRead) : Type 0 where
-  pub tag : r.tag ≤ r.header
-  pub header : r.header ≤ r.whole
-  pub whole : r.whole ≤ length xs
+-- ---- an object that was read
 
 module _ (xs : List ℕ) (r : ObjectRead) (e : (let a : Result ObjectRead Refusal = Ok r in a) ≡ read_of xs) where
   pub read_right : object_refusal xs ≡ None
@@ -98,14 +92,6 @@ module _ (xs : List ℕ) (r : ObjectRead) (e : (let a : Result ObjectRead Refusa
 
   pub read_whole : r.whole ≡ object_size xs
   read_whole = ap (λ (x : ObjectRead). x.whole) read_is ∙ sym (size_good xs read_right)
-
-  pub read_nested : Nested xs r
-  read_nested =
-      let f = (sound_parts xs read_right).fits in
-      let t = ap (λ (x : ObjectRead). x.tag) read_is in
-      let h = ap (λ (x : ObjectRead). x.header) read_is in
-      let w = ap (λ (x : ObjectRead). x.whole) read_is in
-      record { tag = omega arith; header = omega arith; whole = omega arith }
 
 pub read_refused : (xs : List ℕ) (e : Refusal) → (let a : Result ObjectRead Refusal = Err e in a) ≡ read_of xs → object_refusal xs ≡ Some e
 read_refused xs e h = cases (object_refusal xs) refl

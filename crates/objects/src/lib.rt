@@ -36,7 +36,9 @@ impl Piece for Object {
 }
 
 // Reads the one object at the start of `input`; what follows it does not matter. Refusals in this order: 30, 31, 32.
+// It is inlined, since a walk over a list asks for each object.
 #[tactic(auto, using(crate::proofs::Reading::tag_lost, crate::proofs::Reading::tag_inside, crate::proofs::Reading::form_lost, crate::proofs::Reading::header_le, crate::proofs::Reading::value_cut, crate::proofs::Reading::object_found))]
+#[inline]
 pub fn read_object(input: &[u8]) -> Result<ObjectRead, Refusal>
     ensures { result ≡ read_of input.now }
 {

@@ -8,27 +8,30 @@ use lib.ListN.{length, take, drop, length-drop, length-take}
 use lib.Seq.{get_or-take, get_or-drop}
 use lib.Dec.{eqb}
 use borrow.Author.Tests.{eq-eqb, ne_eqb, eqb-true, eqb-false}
-use Rattle.answer.specs.Answers.Result.{Good, Refused}
+use Rattle.std.specs.Prelude.{Ok, Err}
+use Rattle.answer.specs.declared.refusal.Refusal.{Refusal}
+use Rattle.answer.specs.declared.refusal.Refusal.TheVariants.{NoParameter, NotFound}
 use Rattle.answer.specs.Laid.{PieceAt}
 use Rattle.answer.proofs.Pieces.{piece_more, piece_none}
-use Rattle.answer.proofs.Promises.{same_good, not_good, Numbered}
+use Rattle.answer.proofs.Promises.{same_good, not_good}
 use Rattle.parameters.specs.Parameters.{two_at, parameter_in, parameters, whole_list, number_of, data_of}
 use Rattle.parameters.specs.Finding.{numbered, nth, find, data_at, start_of}
 use Rattle.answer.proofs.Parts.{inner_part}
-use Rattle.parameters.proofs.Parameters.{parameter_le, parameter_four, parameter_there, piece_long}
+use Rattle.parameters.specs.Within.{parameter_le}
+use Rattle.parameters.proofs.Parameters.{parameter_four, parameter_there, piece_long}
 
 -- ---- the nth of the parameters that have the number
 
-pub nth_zero : (n : ℕ) (ps : List (List ℕ)) → n ≡ 0 → nth n ps ≡ Refused 24
+pub nth_zero : (n : ℕ) (ps : List (List ℕ)) → n ≡ 0 → nth n ps ≡ Err NotFound
 unfolding nth
 nth_zero n ps e = rw e refl
 
-pub nth_none : (n : ℕ) → nth n [] ≡ Refused 24
+pub nth_none : (n : ℕ) → nth n [] ≡ Err NotFound
 unfolding nth
 nth_none zero = refl
 nth_none (suc n) = refl
 
-pub nth_first : (n : ℕ) (p : List ℕ) (ps : List (List ℕ)) → n ≡ 1 → nth n (p ∷ ps) ≡ Good (data_of p)
+pub nth_first : (n : ℕ) (p : List ℕ) (ps : List (List ℕ)) → n ≡ 1 → nth n (p ∷ ps) ≡ Ok (data_of p)
 unfolding nth
 nth_first n p ps e = rw e refl
 
@@ -49,16 +52,35 @@ data_zero number n at (p ∷ ps) e =
     cases true h k = rw (ne_eqb n 1 (λ z. omega arith)) h
     cases false h k = k
 
+-- where none is found none starts
+data_lost : (number n at : ℕ) (ps : List (List ℕ)) (e : Refusal) → nth n (numbered number ps) ≡ Err e → data_at number n at ps ≡ 0
+unfolding data_at numbered
+data_lost number n at [] e h = refl
+data_lost number n at (p ∷ ps) e h = cases (eqb (number_of p) number) n (λ m a. data_lost number m a ps e) h
+  where
+    cases : (t : Bool) (n : ℕ) → ((m a : ℕ) → nth m (numbered number ps) ≡ Err e → data_at number m a ps ≡ 0) → nth n (cond t (p ∷ numbered number ps) (numbered number ps)) ≡ Err e
+        → cond t (cond (eqb n 1) (at + 4) (data_at number (n - 1) (at + length p) ps)) (data_at number n (at + length p) ps) ≡ 0
+    cases true zero ih h = data_zero number (0 - 1) (at + length p) ps (omega arith)
+    cases true (suc zero) ih h = absurd (not_good (sym h ∙ nth_first 1 p (numbered number ps) refl))
+    cases true (suc (suc n)) ih h =
+        let o : suc (suc n) ≡ 1 → ⊥ = λ z. omega arith in
+        rw (ne_eqb (suc (suc n)) 1 o) (ih (suc (suc n) - 1) (at + length p) (sym (nth_later (suc (suc n)) p (numbered number ps) (omega arith) o) ∙ h))
+    cases false n ih h = ih n (at + length p) h
+
+pub start_lost : (list : List ℕ) (number n : ℕ) (e : Refusal) → find list number n ≡ Err e → start_of list number n ≡ 0
+unfolding find start_of
+start_lost list number n e = cases (whole_list list)
+  where
+    cases : (t : Bool) → cond t (nth n (numbered number (parameters list))) (Err NoParameter) ≡ Err e → cond t (data_at number n 0 (parameters list)) 0 ≡ 0
+    cases true h = data_lost number n 0 (parameters list) e h
+    cases false h = refl
+
 -- ---- a walk: the parameter at a place, of r bytes
 
 module _ (s : List ℕ) (at r number : ℕ) (p : r ≡ parameter_in (drop at s)) where
   pub numbered_none : r ≡ 0 → numbered number (parameters (drop at s)) ≡ []
   unfolding numbered
   numbered_none z = rw (piece_none parameter_in parameter_le s at r p z) refl
-
-  pub data_none : (n : ℕ) → r ≡ 0 → data_at number n at (parameters (drop at s)) ≡ 0
-  unfolding data_at
-  data_none n z = rw (piece_none parameter_in parameter_le s at r p z) refl
 
   module _ (some : r ≡ 0 → ⊥) where
     pub four : 4 ≤ r
@@ -83,7 +105,7 @@ module _ (s : List ℕ) (at r number : ℕ) (p : r ≡ parameter_in (drop at s))
     data_part = inner_part s at 4 r
 
     module _ (n : ℕ) where
-      pub nth_this : two_at s at ≡ number → n ≡ 1 → nth n (numbered number (parameters (drop at s))) ≡ Good (data_of (take r (drop at s)))
+      pub nth_this : two_at s at ≡ number → n ≡ 1 → nth n (numbered number (parameters (drop at s))) ≡ Ok (data_of (take r (drop at s)))
       nth_this e f = ap (nth n) (numbered_this e) ∙ nth_first n (take r (drop at s)) (numbered number (parameters (drop (at + r) s))) f
 
       pub data_this : two_at s at ≡ number → n ≡ 1 → data_at number n at (parameters (drop at s)) ≡ at + 4
@@ -102,7 +124,7 @@ module _ (s : List ℕ) (at r number : ℕ) (p : r ≡ parameter_in (drop at s))
 
 module _ (s : List ℕ) (number : ℕ) (d : List ℕ) where
   abbrev Found : ℕ → ℕ → Type 0
-  Found at n = nth n (numbered number (parameters (drop at s))) ≡ Good d → take (length d) (drop (data_at number n at (parameters (drop at s))) s) ≡ d
+  Found at n = nth n (numbered number (parameters (drop at s))) ≡ Ok d → take (length d) (drop (data_at number n at (parameters (drop at s))) s) ≡ d
 
   abbrev FoundTo : ℕ → Type 0
   FoundTo k = (at n : ℕ) → at ≤ length s → length s - at ≤ k → Found at n
@@ -129,7 +151,7 @@ module _ (s : List ℕ) (number : ℕ) (d : List ℕ) where
           let l = ap (nth n) (sym (numbered_this s at r number p.is some h)) ∙ e in
           rw (data_later s at r number p.is some n h o) (ih (sym (nth_later n (take r (drop at s)) ps (positive n l) o) ∙ l))
         where
-          positive : (n : ℕ) → nth n (take r (drop at s) ∷ numbered number (parameters (drop (at + r) s))) ≡ Good d → 1 ≤ n
+          positive : (n : ℕ) → nth n (take r (drop at s) ∷ numbered number (parameters (drop (at + r) s))) ≡ Ok d → 1 ≤ n
           positive zero f = absurd (not_good (sym (nth_zero 0 (take r (drop at s) ∷ numbered number (parameters (drop (at + r) s))) refl) ∙ f))
           positive (suc n) f = omega arith
 
@@ -161,28 +183,11 @@ module _ (s : List ℕ) (number : ℕ) (d : List ℕ) where
   found_to zero = λ at n h z. found_end at n (parameter_in (drop at s)) (piece at h) (omega (arith, simp length-drop at (parameter_le (drop at s))))
   found_to (suc k) = λ at n h z. found_at at n (parameter_in (drop at s)) (piece at h) k z (found_to k)
 
-pub found_there : (list : List ℕ) (number n : ℕ) (d : List ℕ) → find list number n ≡ Good d → take (length d) (drop (start_of list number n) list) ≡ d
+pub found_there : (list : List ℕ) (number n : ℕ) (d : List ℕ) → find list number n ≡ Ok d → take (length d) (drop (start_of list number n) list) ≡ d
 unfolding find start_of
 found_there list number n d e = cases (whole_list list) refl e
   where
-    cases : (t : Bool) → whole_list list ≡ t → cond t (nth n (numbered number (parameters list))) (Refused 21) ≡ Good d
+    cases : (t : Bool) → whole_list list ≡ t → cond t (nth n (numbered number (parameters list))) (Err NoParameter) ≡ Ok d
         → take (length d) (drop (cond t (data_at number n 0 (parameters list)) 0) list) ≡ d
     cases true w f = found_to list number d (length list) 0 n (omega arith) (omega arith) f
     cases false w f = absurd (not_good f)
-
--- ---- refusals of a search have numbers other than 0
-
-nth_numbered : (n : ℕ) (ps : List (List ℕ)) → Numbered (nth n ps)
-unfolding nth
-nth_numbered zero ps = λ e. omega arith
-nth_numbered (suc n) [] = λ e. omega arith
-nth_numbered (suc zero) (p ∷ ps) = tt
-nth_numbered (suc (suc n)) (p ∷ ps) = nth_numbered (suc n) ps
-
-pub find_numbered : (list : List ℕ) (number n : ℕ) → Numbered (find list number n)
-unfolding find
-find_numbered list number n = cases (whole_list list)
-  where
-    cases : (b : Bool) → Numbered (cond b (nth n (numbered number (parameters list))) (Refused 21))
-    cases true = nth_numbered n (numbered number (parameters list))
-    cases false = λ e. omega arith

@@ -8,11 +8,14 @@ use lib.ListN.{length, take, drop, length-append, get_or-append}
 use lib.Seq.{length-take-le, get_or-take}
 use lib.Dec.{leb}
 use borrow.Author.Tests.{le-leb, leb-true}
-use Rattle.answer.specs.Pieces.{rest, rest_from, is_none, every}
+use Rattle.std.specs.Prelude.{Option, Some}
+use Rattle.answer.specs.Pieces.{found, rest, rest_from, is_none, every}
 use Rattle.answer.specs.Laid.{PieceAt}
 use Rattle.answer.specs.Claims.{AllPieces}
+use Rattle.answer.proofs.Found.{found_is, found_some}
 use Rattle.answer.proofs.Pieces.{Sizes, none_true, within, flatten_pieces, pieces_flatten, rest_flatten, all_pieces, whole_stop}
 use Rattle.parameters.specs.Parameters.{two_at, parameter_in, parameters, whole_list}
+use Rattle.parameters.specs.Within.{parameter_le}
 use Rattle.answer.proofs.Parts.{and_left, and_right, flatten_append}
 
 -- ---- the size of a parameter
@@ -22,15 +25,6 @@ unfolding parameter_in
 parameter_good xs h k = rw (le-leb 4 (length xs) h, le-leb (4 + two_at xs 2) (length xs) k) refl
 
 -- ---- a parameter is told by its own bytes
-
-pub parameter_le : (xs : List ℕ) → parameter_in xs ≤ length xs
-unfolding parameter_in
-parameter_le xs = cases (leb 4 (length xs)) (leb (4 + two_at xs 2) (length xs)) refl
-  where
-    cases : (a b : Bool) → leb (4 + two_at xs 2) (length xs) ≡ b → cond (a && b) (4 + two_at xs 2) 0 ≤ length xs
-    cases true true e = leb-true (4 + two_at xs 2) (length xs) e
-    cases true false e = omega arith
-    cases false b e = omega arith
 
 record Header (xs : List ℕ) : Type 0 where
   long : 4 ≤ length xs
@@ -139,6 +133,14 @@ parameter_there s at n h e = record { is = e; within = within parameter_in param
 -- it ends within the list
 pub parameter_ends : (s : List ℕ) (at : ℕ) → at ≤ length s → parameter_in (drop at s) + at ≤ length s
 parameter_ends s at h = omega (arith, within parameter_in parameter_le s at (parameter_in (drop at s)) refl h)
+
+-- the same of a place where one stands, as the code tells it
+pub parameter_found : (s : List ℕ) (at n : ℕ) → at ≤ length s → (let o : Option ℕ = Some n in o) ≡ found (parameter_in (drop at s))
+    → (n ≡ parameter_in (drop at s)) × (4 ≤ n) × (at + n ≤ length s)
+parameter_found s at n h e =
+    let i = found_is (parameter_in (drop at s)) n e in
+    let k = found_some (parameter_in (drop at s)) n e in
+    (sym i, omega (arith, i, parameter_four (drop at s) (λ z. k (sym i ∙ z))), omega (arith, i, parameter_ends s at h))
 
 pub piece_long : (s : List ℕ) (at n : ℕ) → n ≡ parameter_in (drop at s) → length (take n (drop at s)) ≡ n
 piece_long s at n e = length-take-le n (drop at s) (omega (arith, e, parameter_le (drop at s)))

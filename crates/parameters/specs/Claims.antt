@@ -1,6 +1,5 @@
 -- The scope paper's marked samples on parameter lists (section Sample line traffic).
-use Rattle.std.specs.Prelude.{◌≡◌, List, [], ◌∷◌, ℕ}
-use Rattle.answer.specs.Answers.Result.{Good}
+use Rattle.std.specs.Prelude.{◌≡◌, List, [], ◌∷◌, ℕ, Ok}
 use Rattle.parameters.specs.Parameters.{parameters}
 use Rattle.parameters.specs.Finding.{find}
 
@@ -13,6 +12,6 @@ mnu_list = 0x80 ∷ 0x4d ∷ 0x00 ∷ 0x02 ∷ 0x30 ∷ 0x32 ∷ []
 
 pub record ParameterSamples : Type 0 where
   -- in the list of CEX one parameter, 0006h, with 6 data bytes
-  pub cex : (parameters cex_list ≡ cex_list ∷ []) × (find cex_list 0x0006 1 ≡ Good (0x30 ∷ 0x31 ∷ 0x30 ∷ 0x30 ∷ 0x30 ∷ 0x30 ∷ []))
+  pub cex : (parameters cex_list ≡ cex_list ∷ []) × (find cex_list 0x0006 1 ≡ Ok (0x30 ∷ 0x31 ∷ 0x30 ∷ 0x30 ∷ 0x30 ∷ 0x30 ∷ []))
   -- in that of the response to MNU 804Dh, with the data 30 32
-  pub mnu : find mnu_list 0x804d 1 ≡ Good (0x30 ∷ 0x32 ∷ [])
+  pub mnu : find mnu_list 0x804d 1 ≡ Ok (0x30 ∷ 0x32 ∷ [])

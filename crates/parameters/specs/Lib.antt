@@ -1,5 +1,5 @@
--- In the order of reading. `Steps` serves the private functions alone: no promise cites it.
+-- In the order of reading.
 pub mod Parameters
 pub mod Finding
 pub mod Claims
-pub mod Steps
+pub mod Within

@@ -7,22 +7,21 @@ mod search;
 ghost use Rattle.std.specs.Prelude.{◌≡◌};
 ghost use Rattle.parameters.specs.Finding.{find, Handed, refusal_of};
 
-pub use parameter::{parameter_at, whole_list};
+use answer::Refusal;
+pub use parameter::{Parameter, parameter_at, whole_list};
+pub use search::find;
 
-// The data of the nth parameter of this number, counted from 1, as a part of `list` itself; an empty part where `find_refusal` refuses.
+// What `find` finds; an empty part at the list's start where it refuses.
+#[tactic(auto, using(crate::proofs::Finding::start_lost))]
 pub fn find_parameter<'a>(list: &'a [u8], number: u16, n: usize) -> &'a [u8]
     ensures { Handed list.entry number n result }
 {
-    let place = search::find_place(list, number, n);
-    let a = place.start;
-    let e = place.end;
-    &list[a..e]
+    find(list, number, n).unwrap_or(&list[..0])
 }
 
-// The number of the refusal of `find_parameter` for the same inputs, 0 where it found one. Refusals in this order: 21, 24.
-pub fn find_refusal(list: &[u8], number: u16, n: usize) -> u8
+// The refusal of `find` for the same inputs; none where it found one.
+pub fn find_refusal(list: &[u8], number: u16, n: usize) -> Option<Refusal>
     ensures { result ≡ refusal_of (find list.now number n) }
 {
-    let place = search::find_place(list, number, n);
-    place.refusal
+    find(list, number, n).err()
 }

@@ -6,10 +6,10 @@ use Rattle.parameters.specs.Parameters.{parameters}
 use Rattle.parameters.specs.Finding.{numbered, nth, data_at}
 use Rattle.parameters.proofs.search.find_nth.Given as goal
 
-abbrev pub invariant-loop-number : goal.invariant-loop-number
-invariant-loop-number l =
+abbrev pub invariant-loop-k : goal.invariant-loop-k
+invariant-loop-k l =
     (l.at ≤ length l.list) × (1 ≤ l.left) × (nth l.n (numbered l.number (parameters l.list)) ≡ nth l.left (numbered l.number (parameters (drop l.at l.list))))
     × (data_at l.number l.n 0 (parameters l.list) ≡ data_at l.number l.left l.at (parameters (drop l.at l.list)))
 
-abbrev pub decreases-loop-number : goal.decreases-loop-number
-decreases-loop-number l = length l.list - l.at
+abbrev pub decreases-loop-k : goal.decreases-loop-k
+decreases-loop-k l = length l.list - l.at

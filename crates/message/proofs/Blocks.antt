@@ -1,21 +1,24 @@
 -- The laws of blocks: written blocks are read, and read blocks are written.
 use mathlib.Core.Path.{◌≡◌, refl, sym, ap, ap₂, ◌∙◌}
-use mathlib.Core.Bool.{Bool, true, false, ◌&&◌, cond}
+use mathlib.Core.Bool.{Bool, true, false, ◌&&◌, cond, false≢true}
 use mathlib.Core.List.{List, [], ◌∷◌, ◌++◌, map, flatten}
-use Prim.Native.Nat.{ℕ, ◌+◌, ◌-◌, ◌*◌, ◌/◌, ◌%◌, ◌≤◌}
+use Prim.Native.Nat.{ℕ, suc, ◌+◌, ◌-◌, ◌*◌, ◌/◌, ◌%◌, ◌≤◌}
 use native.Mathlib.Omega.{arith}
-use lib.ListN.{length, get_or, take, drop, length-append, length-take, length-drop, get_or-append}
+use lib.ListN.{length, get_or, take, drop, length-append, length-drop, get_or-append}
 use lib.Seq.{length-take-le, get_or-take}
 use lib.Dec.{leb}
 use borrow.Author.Tests.{le-leb, leb-true}
-use Rattle.answer.specs.Pieces.{pieces, rest, is_none, whole, every}
-use Rattle.answer.specs.Laid.{PieceAt}
-use Rattle.answer.proofs.Pieces.{Sizes, none_true, piece_more, piece_none, flatten_pieces, pieces_flatten, rest_flatten, all_pieces}
+use Rattle.std.specs.List.{list_all}
+use Rattle.answer.specs.Pieces.{found, pieces, rest, is_none, whole, every}
+use Rattle.std.specs.Prelude.{Option, Some, None}
+use Rattle.answer.proofs.DigitLaws.{digit_nine}
+use Rattle.answer.proofs.Pieces.{Sizes, none_true, from_le, flatten_pieces, pieces_flatten, rest_flatten, all_pieces}
 use Rattle.parameters.specs.Parameters.{whole_list}
-use Rattle.answer.specs.Digits.{is_digit, three_at}
+use Rattle.answer.specs.Digits.{is_digit, three_at, three_in}
 use Rattle.answer.specs.Claims.{AllPieces}
 use Rattle.message.specs.Blocks.{is_length, block_in, blocks_of, three_of, block_of}
-use Rattle.answer.proofs.Parts.{and_left, and_right, inner_part, piece_at}
+use Rattle.message.specs.Within.{block_le}
+use Rattle.answer.proofs.Parts.{and_left, and_right}
 
 -- ---- the size of a block
 
@@ -24,20 +27,6 @@ unfolding block_in
 block_good xs h g f = rw (le-leb 3 (length xs) h, g, le-leb (3 + three_at xs) (length xs) f) refl
 
 -- ---- a block is told by its own bytes
-
-pub block_le : (xs : List ℕ) → block_in xs ≤ length xs
-unfolding block_in
-block_le xs = cases (leb 3 (length xs)) (is_length xs) (leb (3 + three_at xs) (length xs)) refl
-  where
-    cases : (a b c : Bool) → leb (3 + three_at xs) (length xs) ≡ c → cond (a && (b && c)) (3 + three_at xs) 0 ≤ length xs
-    cases true true true e = leb-true (3 + three_at xs) (length xs) e
-    cases true true false e = omega arith
-    cases true false c e = omega arith
-    cases false b c e = omega arith
-
--- what is told of the list from a place on
-pub block_there : (s : List ℕ) (at n : ℕ) → at ≤ length s → n ≡ block_in (take (length s - at) (drop at s)) → PieceAt block_in s at n
-block_there s at n h e = piece_at block_in block_le s at n h e
 
 record Block (xs : List ℕ) : Type 0 where
   long : 3 ≤ length xs
@@ -227,44 +216,85 @@ body_again body e =
     let r = read_blocks (pieces block_in body) (all_pieces block_in block_sizes body) in
     (ap flatten r.0 ∙ flatten_pieces block_in block_le body (none_true (rest block_in body) e), r.1)
 
--- ---- a walk over the blocks: what the one of n bytes at a place holds
+-- ---- the size of a block, by what its three digits tell
 
-module _ (s : List ℕ) (at n : ℕ) (p : PieceAt block_in s at n) where
-  pub lists_none : n ≡ 0 → every whole_list (blocks_of (drop at s)) ≡ true
-  unfolding every
-  lists_none z = rw (piece_none block_in block_le s at n p.is z) refl
+record Three (s : List ℕ) (n : ℕ) : Type 0 where
+  is : three_at s ≡ n
+  first : is_digit (get_or s 0 0) ≡ true
+  second : is_digit (get_or s 1 0) ≡ true
+  third : is_digit (get_or s 2 0) ≡ true
 
-  pub held_none : n ≡ 0 → flatten (blocks_of (drop at s)) ≡ []
+three_told : (s : List ℕ) (n : ℕ) → (let o : Option ℕ = Some n in o) ≡ three_in s → Three s n
+unfolding three_in
+three_told s n = cases (is_digit (get_or s 0 0)) (is_digit (get_or s 1 0)) (is_digit (get_or s 2 0)) refl refl refl
+  where
+    cases : (t u v : Bool) → is_digit (get_or s 0 0) ≡ t → is_digit (get_or s 1 0) ≡ u → is_digit (get_or s 2 0) ≡ v
+        → (let o : Option ℕ = Some n in o) ≡ cond (t && (u && v)) (Some (three_at s)) None → Three s n
+    cases true true true a b c e = let h : n ≡ three_at s = cc in record { is = sym h; first = a; second = b; third = c }
+    cases true true false a b c e = absurd cc
+    cases true false v a b c e = absurd cc
+    cases false u v a b c e = absurd cc
+
+third_there : (s : List ℕ) → is_digit (get_or s 2 0) ≡ true → 3 ≤ length s
+third_there [] e = absurd (false≢true e)
+third_there (a ∷ []) e = absurd (false≢true e)
+third_there (a ∷ b ∷ []) e = absurd (false≢true e)
+third_there (a ∷ b ∷ c ∷ s) e = omega arith
+
+pub digits_some : (s : List ℕ) (n : ℕ) → (let o : Option ℕ = Some n in o) ≡ three_in s
+    → (n ≤ 999) × (block_in s ≡ cond (leb 1 n && leb (3 + n) (length s)) (3 + n) 0)
+unfolding block_in
+digits_some s n e =
+    let d = three_told s n e in
+    let l = third_there s d.third in
+    let x = digit_nine (get_or s 0 0) d.first in
+    let y = digit_nine (get_or s 1 0) d.second in
+    let z = digit_nine (get_or s 2 0) d.third in
+    let by : block_in s ≡ cond (leb 1 (three_at s) && leb (3 + three_at s) (length s)) (3 + three_at s) 0 = rw (le-leb 3 (length s) l, d.first, d.second, d.third) refl in
+    (omega (arith, d.is), by ∙ ap (λ (m : ℕ). cond (leb 1 m && leb (3 + m) (length s)) (3 + m) 0) d.is)
+
+pub found_three : (n : ℕ) → found (3 + n) ≡ (let o : Option ℕ = Some (3 + n) in o)
+found_three n =
+    let e : 3 + n ≡ suc (suc (suc n)) = omega arith in
+    ap found e ∙ ap (λ (k : ℕ). let o : Option ℕ = Some k in o) (sym e)
+
+pub digits_none : (s : List ℕ) → (let o : Option ℕ = None in o) ≡ three_in s → block_in s ≡ 0
+unfolding three_in block_in
+digits_none s = cases (is_digit (get_or s 0 0)) (is_digit (get_or s 1 0)) (is_digit (get_or s 2 0)) (leb 3 (length s))
+  where
+    cases : (t u v w : Bool) → (let o : Option ℕ = None in o) ≡ cond (t && (u && v)) (Some (three_at s)) None
+        → cond (w && ((t && (u && (v && leb 1 (three_at s)))) && leb (3 + three_at s) (length s))) (3 + three_at s) 0 ≡ 0
+    cases true true true w e = absurd cc
+    cases true true false true e = refl
+    cases true true false false e = refl
+    cases true false v true e = refl
+    cases true false v false e = refl
+    cases false u v true e = refl
+    cases false u v false e = refl
+
+-- ---- a walk over the blocks of a body: `q` is next, and those of `more` are left
+
+pub lists_all : (qs : List (List ℕ)) → list_all (λ q. whole_list (drop 3 q)) qs ≡ every whole_list (map (drop 3) qs)
+unfolding every
+lists_all [] = refl
+lists_all (q ∷ qs) = ap (λ (t : Bool). whole_list (drop 3 q) && t) (lists_all qs)
+
+pub held_le : (qs : List (List ℕ)) → length (flatten (map (drop 3) qs)) ≤ length (flatten qs)
+unfolding flatten
+held_le [] = omega arith
+held_le (q ∷ qs) = rw (length-append q (flatten qs), length-append (drop 3 q) (flatten (map (drop 3) qs)), length-drop 3 q) (omega (arith, held_le qs))
+
+pub joined_le : (body : List ℕ) → length (flatten (blocks_of body)) ≤ length body
+joined_le body = omega (arith, held_le (pieces block_in body), from_le block_in block_le 0 body)
+
+module _ (left q more : List ℕ) (e : pieces block_in left ≡ q ∷ pieces block_in more) where
+  pub held_more : flatten (blocks_of left) ≡ drop 3 q ++ flatten (blocks_of more)
   unfolding flatten
-  held_none z = rw (piece_none block_in block_le s at n p.is z) refl
+  held_more = ap (λ (l : List (List ℕ)). flatten (map (drop 3) l)) e
 
-  module _ (some : n ≡ 0 → ⊥) where
-    pub three : 3 ≤ n
-    three = let i = (block (drop at s) (λ z. some (p.is ∙ z))).is in omega (arith, p.is, i)
+  pub joined_more : length (flatten (blocks_of left)) ≡ length (drop 3 q) + length (flatten (blocks_of more))
+  joined_more = ap length held_more ∙ length-append (drop 3 q) (flatten (blocks_of more))
 
-    -- as the part of the body that is handed on
-    abbrev held : List ℕ
-    held = take (at + n - (at + 3)) (drop (at + 3) s)
-
-    held_is : drop 3 (take n (drop at s)) ≡ held
-    held_is = sym (inner_part s at 3 n)
-
-    held_long : length held ≡ n - 3
-    held_long = let w = p.within in simp (length-take, length-drop) (omega (arith, three))
-
-    lists_by : (t : Bool) → t ≡ whole_list held → every whole_list (blocks_of (drop at s)) ≡ (t && every whole_list (blocks_of (drop (at + n) s)))
-    unfolding every
-    lists_by t e = rw (piece_more block_in block_le s at n p.is some, held_is, e) refl
-
-    pub lists_more : true ≡ whole_list held → every whole_list (blocks_of (drop at s)) ≡ every whole_list (blocks_of (drop (at + n) s))
-    lists_more e = lists_by true e
-
-    pub lists_not : false ≡ whole_list held → every whole_list (blocks_of (drop at s)) ≡ false
-    lists_not e = lists_by false e
-
-    pub held_more : flatten (blocks_of (drop at s)) ≡ held ++ flatten (blocks_of (drop (at + n) s))
-    unfolding flatten
-    held_more = rw (piece_more block_in block_le s at n p.is some, held_is) refl
-
-    pub joined_more : length (flatten (blocks_of (drop at s))) ≡ n - 3 + length (flatten (blocks_of (drop (at + n) s)))
-    joined_more = ap length held_more ∙ length-append held (flatten (blocks_of (drop (at + n) s))) ∙ ap (λ (k : ℕ). k + length (flatten (blocks_of (drop (at + n) s)))) held_long
+pub held_none : (left : List ℕ) → pieces block_in left ≡ [] → flatten (blocks_of left) ≡ []
+unfolding flatten
+held_none left e = ap (λ (l : List (List ℕ)). flatten (map (drop 3) l)) e

@@ -2,32 +2,26 @@
 use mathlib.Core.Path.{◌≡◌, refl, sym, ap, ◌∙◌, subst}
 use mathlib.Core.Bool.{Bool, true, false, cond}
 use mathlib.Core.List.{List, [], ◌∷◌, ◌++◌, append_assoc, append-nil, map, flatten}
-use Prim.Native.Nat.{ℕ, zero, suc, pred, ◌+◌, ◌-◌, ◌≤◌, ◌<◌}
+use Prim.Native.Nat.{ℕ, zero, suc, pred, ◌+◌, ◌≤◌, ◌<◌}
 use native.Mathlib.Omega.{arith}
-use lib.ListN.{length, take, drop, length-append, length-take, length-drop, take-append-drop}
+use lib.ListN.{length, take, drop, length-append, length-drop, take-append-drop}
 use lib.Seq.{take_at, drop_at, length-take-le, drop-append_seam, take-append_seam}
 use lib.Dec.{leb, ltb}
-use borrow.Author.Tests.{le-leb, lt-leb, leb-true, leb-false, lt-ltb, ltb-true}
-use Rattle.answer.specs.Pieces.{piece_then, pieces_from, rest_then, rest, rest_from, every}
-use Rattle.answer.proofs.Pieces.{count_le, piece_more, piece_none, pieces_cons, rest_cons, from_le, flatten_pieces, all_append}
+use borrow.Author.Tests.{le-leb, lt-leb, leb-true, leb-false, lt-ltb, ltb-true, ne_eqb}
+use Rattle.answer.specs.Pieces.{piece_then, pieces, pieces_from, rest_then, rest, rest_from, every}
+use Rattle.answer.proofs.Pieces.{count_le, pieces_cons, rest_cons, from_le, flatten_pieces, all_append}
 use Rattle.parameters.specs.Parameters.{parameter_in, parameters, whole_list, data_of}
 use Rattle.message.specs.Blocks.{block_of, filled, first_in, fill, greedy}
 use Rattle.message.specs.Message.{short}
-use Rattle.message.specs.Steps.{EndsAt}
+use Rattle.std.specs.Prelude.{Err}
+use Rattle.message.specs.Steps.{measured, unheld}
+use Rattle.message.specs.Within.{first_le}
+use Rattle.parameters.specs.Within.{parameter_le}
 use Rattle.answer.proofs.Parts.{and_left, and_right, flatten_append, every_append}
-use Rattle.parameters.proofs.Parameters.{parameter_le, parameter_sizes, piece_long, AllP, parameters_all, parameters_flat, whole_flat, flat_parameters, whole_some, both_parameters, AllWhole, all_whole, join_whole}
+use Rattle.parameters.proofs.Parameters.{parameter_sizes, AllP, parameters_all, parameters_flat, whole_flat, flat_parameters, whole_some, both_parameters, AllWhole, all_whole, join_whole}
 use Rattle.message.proofs.Blocks.{Sized}
 
 -- ---- how much goes into the first block
-
-filled_le : (n : ℕ) (ps : List (List ℕ)) → filled n ps ≤ n + length (flatten ps)
-unfolding filled flatten
-filled_le n [] = omega arith
-filled_le n (p ∷ ps) = cases (leb (n + length p) 999) (filled_le (n + length p) ps)
-  where
-    cases : (t : Bool) → filled (n + length p) ps ≤ n + length p + length (flatten ps) → cond t (filled (n + length p) ps) n ≤ n + length (p ++ flatten ps)
-    cases true h = rw (length-append p (flatten ps)) (omega arith)
-    cases false h = rw (length-append p (flatten ps)) (omega arith)
 
 filled_999 : (n : ℕ) (ps : List (List ℕ)) → n ≤ 999 → filled n ps ≤ 999
 unfolding filled
@@ -38,10 +32,6 @@ filled_999 n (p ∷ ps) h = cases (leb (n + length p) 999) refl (λ k. filled_99
     cases true e ih = ih (leb-true (n + length p) 999 e)
     cases false e ih = h
 
-pub first_le : (xs : List ℕ) → first_in xs ≤ length xs
-unfolding first_in
-first_le xs = omega (arith, filled_le 0 (parameters xs), from_le parameter_in parameter_le 0 xs)
-
 -- no more blocks than bytes
 pub fill_few : (list : List ℕ) → length (fill list) ≤ length list
 fill_few list = omega (arith, count_le first_in first_le 0 list)
@@ -50,69 +40,45 @@ first_999 : (xs : List ℕ) → first_in xs ≤ 999
 unfolding first_in
 first_999 xs = filled_999 0 (parameters xs) (omega arith)
 
--- ---- a walk over the parameters: the present block has m bytes, and a parameter of r bytes is next
+-- ---- a walk over the parameters of a list: the present block has m bytes, `p` is next, and those of `more` are left
 
-module _ (s : List ℕ) (at r m : ℕ) (p : r ≡ parameter_in (drop at s)) where
-  pub filled_more : (r ≡ 0 → ⊥) → m + r ≤ 999 → filled m (parameters (drop at s)) ≡ filled (m + r) (parameters (drop (at + r) s))
+module _ (m : ℕ) (left p more : List ℕ) (e : pieces parameter_in left ≡ p ∷ pieces parameter_in more) where
+  pub filled_on : m + length p ≤ 999 → filled m (parameters left) ≡ filled (m + length p) (parameters more)
   unfolding filled
-  filled_more h k = rw (piece_more parameter_in parameter_le s at r p h, piece_long s at r p, le-leb (m + r) 999 k) refl
+  filled_on k = rw (e, le-leb (m + length p) 999 k) refl
 
-  pub filled_over : (r ≡ 0 → ⊥) → 999 < m + r → filled m (parameters (drop at s)) ≡ m
+  pub filled_over : 999 < m + length p → filled m (parameters left) ≡ m
   unfolding filled
-  filled_over h k = rw (piece_more parameter_in parameter_le s at r p h, piece_long s at r p, lt-leb (m + r) 999 k) refl
+  filled_over k = rw (e, lt-leb (m + length p) 999 k) refl
 
-  pub filled_none : r ≡ 0 → filled m (parameters (drop at s)) ≡ m
-  unfolding filled
-  filled_none h = rw (piece_none parameter_in parameter_le s at r p h) refl
+pub filled_none : (m : ℕ) (left : List ℕ) → pieces parameter_in left ≡ [] → filled m (parameters left) ≡ m
+unfolding filled
+filled_none m left e = rw e refl
 
--- the same, where the present block starts at `start`
-pub filled_on : (s : List ℕ) (at r start : ℕ) → r ≡ parameter_in (drop at s) → start ≤ at → (r ≡ 0 → ⊥) → at - start + r ≤ 999
-    → filled (at - start) (parameters (drop at s)) ≡ filled (at + r - start) (parameters (drop (at + r) s))
-filled_on s at r start p l h k = let e : at - start + r ≡ at + r - start = omega arith in filled_more s at r (at - start) p h k ∙ ap (λ (n : ℕ). filled n (parameters (drop (at + r) s))) e
+-- ---- a walk over what goes into the blocks of a list: `s` goes into the next, and those of `more` are left
 
--- ---- a walk over the blocks: the one that starts at a place ends at e
-
-module _ (s : List ℕ) (at e : ℕ) (p : EndsAt first_in s at e) where
-  size_is : e - at ≡ first_in (drop at s)
-  size_is = let i = p.is in omega arith
-
-  pub fill_more : (e ≡ at → ⊥) → fill (drop at s) ≡ take (e - at) (drop at s) ∷ fill (drop e s)
-  fill_more h =
-      let i = p.is in
-      let n : at + (e - at) ≡ e = omega arith in
-      piece_more first_in first_le s at (e - at) size_is (λ z. h (omega arith)) ∙ ap (λ (m : ℕ). take (e - at) (drop at s) ∷ fill (drop m s)) n
-
-  pub fill_none : e ≡ at → fill (drop at s) ≡ []
-  fill_none h = piece_none first_in first_le s at (e - at) size_is (omega arith)
-
-  pub blocks_more : (e ≡ at → ⊥) → flatten (map block_of (fill (drop at s))) ≡ block_of (take (e - at) (drop at s)) ++ flatten (map block_of (fill (drop e s)))
+module _ (left s more : List ℕ) (e : pieces first_in left ≡ s ∷ pieces first_in more) where
+  pub blocks_more : flatten (map block_of (fill left)) ≡ block_of s ++ flatten (map block_of (fill more))
   unfolding flatten
-  blocks_more h = ap (λ (x : List (List ℕ)). flatten (map block_of x)) (fill_more h)
+  blocks_more = ap (λ (l : List (List ℕ)). flatten (map block_of l)) e
 
-  pub blocks_none : e ≡ at → flatten (map block_of (fill (drop at s))) ≡ []
+  pub count_more : length (fill left) ≡ length (fill more) + 1
+  count_more = ap (λ (l : List (List ℕ)). length l) e ∙ omega arith
+
+  pub part_more : length (flatten (fill left)) ≡ length s + length (flatten (fill more))
   unfolding flatten
-  blocks_none h = ap (λ (x : List (List ℕ)). flatten (map block_of x)) (fill_none h)
+  part_more = ap (λ (l : List (List ℕ)). length (flatten l)) e ∙ length-append s (flatten (fill more))
 
-  pub count_more : (e ≡ at → ⊥) → length (fill (drop at s)) ≡ length (fill (drop e s)) + 1
-  count_more h = ap (λ (x : List (List ℕ)). length x) (fill_more h) ∙ omega arith
+pub blocks_none : (left : List ℕ) → pieces first_in left ≡ [] → flatten (map block_of (fill left)) ≡ []
+unfolding flatten
+blocks_none left e = ap (λ (l : List (List ℕ)). flatten (map block_of l)) e
 
-  pub count_none : e ≡ at → length (fill (drop at s)) ≡ 0
-  count_none h = ap (λ (x : List (List ℕ)). length x) (fill_none h)
+pub part_none : (left : List ℕ) → pieces first_in left ≡ [] → length (flatten (fill left)) ≡ 0
+unfolding flatten
+part_none left e = ap (λ (l : List (List ℕ)). length (flatten l)) e
 
-  pub joined_more : (e ≡ at → ⊥) → at + length (flatten (fill (drop at s))) ≡ e + length (flatten (fill (drop e s)))
-  unfolding flatten
-  joined_more h =
-      let i = p.is in
-      let l : length (take (e - at) (drop at s)) ≡ e - at = length-take-le (e - at) (drop at s) (simp length-drop (omega (arith, p.within))) in
-      let f = ap (λ (x : List (List ℕ)). length (flatten x)) (fill_more h) ∙ length-append (take (e - at) (drop at s)) (flatten (fill (drop e s))) in
-      omega (arith, f, l)
-
-  pub joined_none : e ≡ at → length (flatten (fill (drop at s))) ≡ 0
-  unfolding flatten
-  joined_none h = ap (λ (x : List (List ℕ)). length (flatten x)) (fill_none h)
-
-  pub part_999 : length (take (e - at) (drop at s)) ≤ 999
-  part_999 = simp length-take (omega (arith, p.is, first_999 (drop at s)))
+pub measured_not : (list : List ℕ) → (length (flatten (fill list)) ≡ length list → ⊥) → measured list ≡ Err (unheld list)
+measured_not list h = rw (ne_eqb (length (flatten (fill list))) (length list) h) refl
 
 -- ---- what is filled goes into blocks
 
@@ -133,6 +99,13 @@ sized_from zero (x ∷ xs) = cases (first_in (x ∷ xs)) refl (λ k. sized_from 
 
 pub fill_sized : (list : List ℕ) → Sized (fill list)
 fill_sized list = sized_from 0 list
+
+-- what goes into the next block is no longer than a block
+pub part_999 : (left s more : List ℕ) → pieces first_in left ≡ s ∷ pieces first_in more → length s ≤ 999
+part_999 left s more e = (subst Sized e (fill_sized left)).1
+
+pub part_le : (list : List ℕ) → length (flatten (fill list)) ≤ length list
+part_le list = omega (arith, from_le first_in first_le 0 list)
 
 -- ---- parameters go into the present block, or stay for the next
 

@@ -42,3 +42,13 @@ module _ (all left s out₀ : List ℕ) (w₀ : ℕ) (out : List ℕ) (w : ℕ) 
 
   pub putting_fits : (out' : List ℕ) (w' : ℕ) → PutIf out w s w' out' → Putting all left out₀ w₀ out' w'
   putting_fits out' w' u = putting_more out' w' (put_fits out w s w' out' putting_room u)
+
+-- what is put next to one another is put at once
+pub puts_join : (l a b : List ℕ) (at m r : ℕ) (out out' : List ℕ) → at ≤ length l → Puts l at a m out → Puts out m b r out' → Puts l at (a ++ b) r out'
+puts_join l a b at m r out out' h u v =
+    record {
+      bytes =
+          v.bytes ∙ ap (λ (x : List ℕ). pasted x m b) u.bytes ∙ ap (λ (n : ℕ). pasted (pasted l at a) n b) u.next
+          ∙ pasted_join l at a b h;
+      next = v.next ∙ ap (λ (n : ℕ). n + length b) u.next ∙ simp length-append (omega arith);
+    }

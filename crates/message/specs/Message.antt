@@ -1,8 +1,8 @@
 -- Messages, read and written (scope paper, sections Blocks and parameters and Numbered refusals of calls).
-use Rattle.std.specs.Prelude.{ℕ, Bool, true, ◌&&◌, cond, length, get_or, take, drop, leb, ltb, eqb}
+use Rattle.std.specs.Prelude.{ℕ, Bool, true, ◌&&◌, cond, length, get_or, take, drop, leb, ltb, eqb, Ok, Err}
 use mathlib.Core.List.{List, ◌++◌, map, flatten}
-use Rattle.answer.specs.Answers.{Result}
-use Rattle.answer.specs.Answers.Result.{Good, Refused}
+use Rattle.answer.specs.declared.refusal.Refusal.TheVariants.{TooLong, NoMessage, NoParameter, LongParameter, LongMessage}
+use Rattle.answer.specs.Answers.{Output}
 use Rattle.answer.specs.Digits.{is_digit}
 use Rattle.answer.specs.Pieces.{whole, every}
 use Rattle.parameters.specs.Parameters.{parameters, whole_list, data_of}
@@ -40,14 +40,14 @@ abbrev pub framed : Bool → List ℕ → Bool
 framed response m = head_good response (head_of response m) && whole block_in (body_of response m)
 
 -- the blocks joined to one list, if each of them is whole parameters by itself (none crosses a block); else 21
-abbrev pub list_read : List ℕ → Result
-list_read body = cond (every whole_list (blocks_of body)) (Good (flatten (blocks_of body))) (Refused 21)
+abbrev pub list_read : List ℕ → Output
+list_read body = cond (every whole_list (blocks_of body)) (Ok (flatten (blocks_of body))) (Err NoParameter)
 
 -- THE READER: 11, then 20 over all blocks, then 21 (and 1, by the promise)
-unfoldable pub read_message : Bool → List ℕ → Result
+unfoldable pub read_message : Bool → List ℕ → Output
 read_message response m =
-    cond (ltb 2048 (length m)) (Refused 11)
-    (cond (framed response m) (list_read (body_of response m)) (Refused 20))
+    cond (ltb 2048 (length m)) (Err TooLong)
+    (cond (framed response m) (list_read (body_of response m)) (Err NoMessage))
 
 -- ---- writing
 
@@ -60,16 +60,16 @@ abbrev pub short : List ℕ → Bool
 short p = leb (length (data_of p)) 995
 
 -- refusal 23: a message has at most 2,048 bytes
-abbrev pub message_sized : List ℕ → Result
-message_sized m = cond (ltb 2048 (length m)) (Refused 23) (Good m)
+abbrev pub message_sized : List ℕ → Output
+message_sized m = cond (ltb 2048 (length m)) (Err LongMessage) (Ok m)
 
 -- THE WRITER: 20 for the head, 21 over the whole list, then 22, then 23 (and 1, by the promise)
-unfoldable pub write_message : List ℕ → Bool → List ℕ → Result
+unfoldable pub write_message : List ℕ → Bool → List ℕ → Output
 write_message head response list =
     cond (head_good response head)
     (cond (whole_list list)
     (cond (every short (parameters list))
     (message_sized (message_of head list))
-    (Refused 22))
-    (Refused 21))
-    (Refused 20)
+    (Err LongParameter))
+    (Err NoParameter))
+    (Err NoMessage)

@@ -1,15 +1,15 @@
 -- What the private functions come to. No public promise cites it, and no reader has to believe it.
-use Rattle.std.specs.Prelude.{ℕ, ◌+◌, ◌≤◌, ◌≡◌, length, drop}
+use Rattle.std.specs.Prelude.{ℕ, cond, eqb, length, Result, Ok, Err}
 use mathlib.Core.List.{List, flatten}
-use Rattle.message.specs.declared.fill.Measured.{Measured}
+use Rattle.answer.specs.declared.refusal.Refusal.{Refusal}
+use Rattle.answer.specs.declared.refusal.Refusal.TheVariants.{NoParameter, LongParameter}
+use Rattle.parameters.specs.Parameters.{whole_list}
 use Rattle.message.specs.Blocks.{fill}
 
--- r is where the piece that starts at `start` ends, `start` itself where none stands there
-pub record EndsAt (size : List ℕ → ℕ) (s : List ℕ) (start r : ℕ) : Type 0 where
-  pub is : r ≡ start + size (drop start s)
-  pub within : r ≤ length s
+-- why a list is refused that its blocks do not hold to its end
+abbrev pub unheld : List ℕ → Refusal
+unheld list = cond (whole_list list) LongParameter NoParameter
 
--- r is how many blocks a list fills, and where the last of them ends
-pub record Measures (list : List ℕ) (r : Measured) : Type 0 where
-  pub count : r.blocks ≡ length (fill list)
-  pub place : r.end ≡ length (flatten (fill list))
+-- how many blocks a list fills, where they hold it to its end
+abbrev pub measured : List ℕ → Result ℕ Refusal
+measured list = cond (eqb (length (flatten (fill list))) (length list)) (Ok (length (fill list))) (Err (unheld list))

@@ -1,55 +1,66 @@
 // Blocks, filled with the parameters of a list and written.
 ghost use mathlib.Core.List.{map, flatten};
-ghost use Rattle.std.specs.Prelude.{◌+◌, ◌≤◌, length};
+ghost use Rattle.std.specs.Prelude.{◌≡◌, ◌+◌, ◌≤◌, length, cond, Result, Ok, Err};
+ghost use Rattle.answer.specs.declared.refusal.Refusal.TheVariants.{NoParameter, LongParameter};
 ghost use Rattle.answer.specs.Laid.{Puts};
+ghost use Rattle.parameters.specs.Parameters.{whole_list};
 ghost use Rattle.message.specs.Blocks.{block_of, first_in, fill};
-ghost use Rattle.message.specs.Steps.{EndsAt, Measures};
+ghost use Rattle.message.specs.Steps.{measured, unheld};
+ghost use Rattle.message.specs.Within.{first_le};
 
-use parameters::parameter_at;
+use answer::Refusal;
+use answer::walk::{Piece, pieces_of};
+use parameters::{Parameter, whole_list};
 
-// How many blocks a list fills, and where the last of them ends.
-#[derive(Drop)]
-pub(crate) struct Measured {
-    pub(crate) blocks: usize,
-    pub(crate) end: usize,
+// What goes into one block of a list that is written: its next parameters, as many as have room.
+struct Filled;
+
+impl Piece for Filled {
+    ghost size = { first_in };
+
+    #[tactic(auto, using(crate::proofs::Filling::filled_on, crate::proofs::Filling::filled_over, crate::proofs::Filling::filled_none), unfolding(crate::specs::Blocks::first_in))]
+    fn size_in(list: &[u8]) -> Option<usize> {
+        let mut n = 0;
+        for parameter in pieces_of::<Parameter>(list) {
+            let more = n + parameter.len();
+            if 999 < more {
+                break;
+            }
+            n = more;
+        }
+        if n == 0 { None } else { Some(n) }
+    }
+
+    ghost within = { first_le };
 }
 
-// Where the block that starts with the parameter at `start` is full, or the list at its end.
-#[tactic(auto, using(parameters::proofs::Parameters::parameter_ends, crate::proofs::Filling::filled_on, crate::proofs::Filling::filled_over, crate::proofs::Filling::filled_none), unfolding(crate::specs::Blocks::first_in))]
-fn block_end(list: &[u8], start: usize) -> usize
-    requires { start ≤ length list.now }
-    ensures { EndsAt first_in list.now start result }
+// How many blocks a list fills. They end before the first parameter that is broken or too long for a block, and the list is refused.
+#[tactic(auto, using(crate::proofs::Filling::count_more, crate::proofs::Filling::part_more, crate::proofs::Filling::fill_few, crate::proofs::Filling::part_le))]
+pub(crate) fn measure(list: &[u8]) -> Result<usize, Refusal>
+    ensures { result ≡ measured list.now }
 {
-    let mut at = start;
-    loop {
-        let n = parameter_at(list, at);
-        if n == 0 {
-            break;
-        }
-        if 999 < at - start + n {
-            break;
-        }
-        at += n;
+    let mut blocks = 0;
+    let mut end = 0;
+    for part in pieces_of::<Filled>(list) {
+        blocks += 1;
+        end += part.len();
     }
-    at
+    if end == list.len() {
+        Ok(blocks)
+    } else {
+        Err(list_refusal(list))
+    }
 }
 
-// Fills blocks with `list` without writing them. They end before the first parameter that is broken or too long for a block.
-#[tactic(auto, using(crate::proofs::Filling::count_more, crate::proofs::Filling::count_none, crate::proofs::Filling::joined_more, crate::proofs::Filling::joined_none))]
-pub(crate) fn measure(list: &[u8]) -> Measured
-    ensures { Measures list.now result }
+// Why a list is refused that its blocks do not hold to its end.
+fn list_refusal(list: &[u8]) -> Refusal
+    ensures { result ≡ unheld list.now }
 {
-    let mut n = 0;
-    let mut at = 0;
-    loop {
-        let end = block_end(list, at);
-        if end == at {
-            break;
-        }
-        n += 1;
-        at = end;
+    if whole_list(list) {
+        Refusal::LongParameter
+    } else {
+        Refusal::NoParameter
     }
-    Measured { blocks: n, end: at }
 }
 
 // Puts the block that holds `s` at `at` and tells the place after it.
@@ -58,10 +69,13 @@ fn put_block(out: &mut [u8], at: usize, s: &[u8]) -> usize
     ensures { Puts out.old at (block_of s.now) result out.new }
 {
     let n = s.len();
-    out[at] = (0x30 + n / 100) as u8;
-    out[at + 1] = (0x30 + n / 10 % 10) as u8;
-    out[at + 2] = (0x30 + n % 10) as u8;
-    answer::put(out, at + 3, s)
+    let digits = [
+        (0x30 + n / 100) as u8,
+        (0x30 + n / 10 % 10) as u8,
+        (0x30 + n % 10) as u8,
+    ];
+    let at = answer::put(out, at, &digits);
+    answer::put(out, at, s)
 }
 
 // Puts the blocks that `list` fills at `start`.
@@ -69,15 +83,9 @@ pub(crate) fn put_blocks(list: &[u8], out: &mut [u8], start: usize) -> usize
     requires { start + length (flatten (map block_of (fill list.now))) ≤ length out.old }
     ensures { Puts out.old start (flatten (map block_of (fill list.now))) result out.new }
 {
-    let mut w = start;
-    let mut at = 0;
-    loop {
-        let end = block_end(list, at);
-        if end == at {
-            break;
-        }
-        w = put_block(out, w, &list[at..end]);
-        at = end;
+    let mut at = start;
+    for part in pieces_of::<Filled>(list) {
+        at = put_block(out, at, part);
     }
-    w
+    at
 }

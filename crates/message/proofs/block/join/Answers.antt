@@ -1,35 +1,28 @@
--- `message::block::join` meets its contract: of what the blocks hold, that of the blocks from `at` on is still to be put.
-use Prim.Native.Nat.{ℕ, ◌+◌, ◌-◌}
-use mathlib.Core.Path.{◌∙◌}
-use mathlib.Core.List.{List, flatten}
-use native.Mathlib.Omega.{arith}
-use lib.ListN.{take, drop}
+-- What a block holds is put, and what those after it hold is left.
+use Rattle.std.proofs.Common.{arith, ◌∙◌}
+use mathlib.Core.List.{flatten}
+use lib.ListN.{drop}
 use Rattle.answer.proofs.Laid.{pasted_start}
 use Rattle.message.specs.Blocks.{blocks_of}
 use Rattle.message.proofs.Putting.{putting_left, putting_all, putting_fits}
 use Rattle.message.proofs.Blocks.{held_more, held_none}
 use Rattle.message.proofs.block.join.Goals as goal
 
-abbrev joined : List ℕ → List ℕ
-joined body = flatten (blocks_of body)
-
-pub loop-n-preserved : goal.loop-n-preserved
-loop-n-preserved c =
-    let l = c.loop-n in
+pub loop-block-preserved : goal.loop-block-preserved
+loop-block-preserved c =
+    let l = c.loop-block in
     let a = c.args in
-    let s = a.body.now in
-    let n = c.block_at-n.result in
-    let p = c.block_at-n.ensures in
-    let some = c.if-n-eq0.false in (
-      p.within,
-      putting_fits (joined s) (joined (drop (l.at + n) s)) (take (l.at + n - (l.at + 3)) (drop (l.at + 3) s)) a.out.now 0 l.out l.w
-          (putting_left (held_more s l.at n p some) l.invariant.1) (omega (arith, c.requires)) c.put-w.new.out c.put-w.result c.put-w.ensures,
+    let more = c.next.new.self.rest.now in
+    let e = held_more l.block-iterator.rest.now c.in-Some.block.now more c.in-Some.ensures.steps in (
+      tt,
+      tt,
+      putting_fits (flatten (blocks_of a.body.now)) (flatten (blocks_of more)) (drop 3 c.in-Some.block.now) a.out.now 0 l.out l.at
+          (putting_left e l.invariant.2) (omega (arith, c.requires)) c.put-at.new.out c.put-at.result (simp c.held.ensures at c.put-at.ensures),
     )
 
 pub returns : goal.returns
 returns c =
-    let l = c.loop-n in
+    let l = c.loop-block in
     let a = c.args in
-    (putting_all (joined a.body.now) a.out.now 0 l.out l.w
-    (putting_left (held_none a.body.now l.at c.block_at-n.result c.block_at-n.ensures c.if-n-eq0.true) l.invariant.1)).bytes
-    ∙ pasted_start (joined a.body.now) a.out.now
+    (putting_all (flatten (blocks_of a.body.now)) a.out.now 0 l.out l.at (putting_left (held_none l.block-iterator.rest.now c.in-None.ensures.steps.0) l.invariant.2)).bytes
+    ∙ pasted_start (flatten (blocks_of a.body.now)) a.out.now

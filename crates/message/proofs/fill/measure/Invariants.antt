@@ -1,15 +1,12 @@
--- `message::fill::measure` meets its contract: with the blocks of what is left, n are all, and they end as far past `at` as those hold.
-use Prim.Native.Nat.{◌+◌, ◌≤◌, ◌-◌}
-use mathlib.Core.Path.{◌≡◌}
+-- With the blocks that are still to be filled, those that were counted are all, and so is what they hold.
+use Rattle.std.proofs.Common.{◌≡◌, ◌+◌, length}
 use mathlib.Core.List.{flatten}
-use lib.ListN.{length, drop}
 use Rattle.message.specs.Blocks.{fill}
 use Rattle.message.proofs.fill.measure.Given as goal
 
-abbrev pub invariant-loop-at : goal.invariant-loop-at
-invariant-loop-at l =
-    (l.at ≤ length l.list) × (l.n ≤ l.at) × (length (fill l.list) ≡ l.n + length (fill (drop l.at l.list)))
-    × (length (flatten (fill l.list)) ≡ l.at + length (flatten (fill (drop l.at l.list))))
-
-abbrev pub decreases-loop-at : goal.decreases-loop-at
-decreases-loop-at l = length l.list - l.at
+abbrev pub invariant-loop-part : goal.invariant-loop-part
+invariant-loop-part l =
+    (goal.iterator-loop-part).can_next l.part-iterator
+    × (goal.iterator-loop-part).is_finite l.part-iterator
+    × (l.blocks + length (fill l.part-iterator.rest.now) ≡ length (fill l.list))
+    × (l.end + length (flatten (fill l.part-iterator.rest.now)) ≡ length (flatten (fill l.list)))

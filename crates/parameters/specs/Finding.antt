@@ -39,7 +39,7 @@ abbrev pub Part : Bor (List ℕ) → Output → ℕ → Result (Bor (List ℕ)) 
 Part list found start (Ok r) = (found ≡ Ok r.now) × (r.ref_ptr ≡ (list.ref_ptr.0, start + list.ref_ptr.1))
 Part list found start (Err e) = found ≡ Err e
 
--- THE PROMISE of the search: what is found as a part of the caller's own list, or the refusal
+-- THE PROMISE of `find`: what is found as a part of the caller's own list, or the refusal
 abbrev pub Finds : Bor (List ℕ) → ℕ → ℕ → Result (Bor (List ℕ)) Refusal → Type 0
 Finds list number n r = Part list (find list.now number n) (start_of list.now number n) r
 
@@ -49,7 +49,7 @@ pub record Handed (list : Bor (List ℕ)) (number n : ℕ) (r : Bor (List ℕ)) 
   pub bytes : r.now ≡ bytes_of (find list.now number n)
   pub place : r.ref_ptr ≡ (list.ref_ptr.0, start_of list.now number n + list.ref_ptr.1)
 
--- THE PROMISE of the refusal: the one of the search, if it refuses
+-- THE PROMISE of the refusal: that of `find`, if it refuses
 abbrev pub refusal_of : Output → Option Refusal
 refusal_of (Ok s) = None
 refusal_of (Err e) = Some e

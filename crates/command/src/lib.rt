@@ -1,16 +1,16 @@
 // Which command a payload is, by its name and layout (scope paper, section Commands).
 #![tactic(auto)]
 
-ghost use Rattle.std.specs.Prelude.{◌≡◌, true, ◌≤◌, ◌<◌, length};
-ghost use Rattle.answer.specs.Digits.{three_at};
+ghost use Rattle.std.specs.Prelude.{◌≡◌, ◌≤◌, cond, length, eqb};
 ghost use Rattle.command.specs.Texts.{starts, all_text};
-ghost use Rattle.command.specs.Command.{network_at, network_of, gts_good, tli_good, tlr_good, row_of, opn_of, gts_of, tli_of, tlr_of, tle_of, command_of};
+ghost use Rattle.command.specs.Command.{tlr_good, row_of, gts_of, tli_of, tlr_of, command_of};
+ghost use Rattle.command.specs.Steps.{network_in, alone_of};
 
-use answer::digits::{digit_of, is_digit, is_text};
+use answer::digits::{is_text, three_digits, two_digits};
 use records::block_good;
 
 // The command of a payload. A network is that of the command; TLI's version is the ten bytes from place 8 on, and TLR's block all from place 6 on.
-#[derive(Clone, Copy)]
+#[derive(Clone, Copy, Debug, PartialEq, Eq)]
 pub enum Command {
     Opn,
     Gts(u8),
@@ -24,21 +24,11 @@ pub enum Command {
 }
 
 // Whether `p` starts with `s`.
-#[tactic(auto, using(crate::proofs::Texts::starts_short, crate::proofs::Texts::starts_more, crate::proofs::Texts::starts_not, crate::proofs::Texts::starts_done))]
+#[tactic(auto, using(crate::proofs::Texts::starts_same))]
 pub fn starts_with(p: &[u8], s: &[u8]) -> bool
     ensures { result ≡ starts s.now p.now }
 {
-    if p.len() < s.len() {
-        return false;
-    }
-    let mut i = 0;
-    while i < s.len() {
-        if s[i] != p[i] {
-            return false;
-        }
-        i += 1;
-    }
-    true
+    p.starts_with(s)
 }
 
 // Whether each byte is one of a text. No byte ends the walk, so that many are taken at a time.
@@ -47,105 +37,72 @@ pub fn all_text(s: &[u8]) -> bool
     ensures { result ≡ all_text s.now }
 {
     let mut good = true;
-    let mut i = 0;
-    while i < s.len() {
-        good = good & is_text(s[i]);
-        i += 1;
+    for &b in s {
+        good &= is_text(b);
     }
     good
 }
 
-// Whether a network stands at place 6.
-fn network_at(p: &[u8]) -> bool
-    requires { 8 ≤ length p.now }
-    ensures { result ≡ network_at p.now }
+// The network of a payload of `len` bytes: `head`, which is a name and a length, two digits, and text; none where it has another layout.
+#[tactic(auto, using(crate::proofs::Layouts::other_length, crate::proofs::Layouts::other_head, crate::proofs::Layouts::other_digits, crate::proofs::Layouts::network_told))]
+fn network_in(p: &[u8], head: &[u8], len: usize) -> Option<u8>
+    requires { 8 ≤ len }
+    ensures { result ≡ network_in head.now len p.now }
 {
-    is_digit(p[6]) & is_digit(p[7])
-}
-
-// The network at place 6.
-fn network_of(p: &[u8]) -> u8
-    requires { (8 ≤ length p.now) × (network_at p.now ≡ true) }
-    ensures { result ≡ network_of p.now }
-{
-    (digit_of(p[6]) * 10 + digit_of(p[7])) as u8
-}
-
-// The number that the first three digits write.
-fn three_digits(s: &[u8]) -> usize
-    requires { 3 ≤ length s.now }
-    ensures { result ≡ three_at s.now }
-{
-    digit_of(s[0]) * 100 + digit_of(s[1]) * 10 + digit_of(s[2])
-}
-
-// Whether `p` is GTS with its layout.
-#[tactic(auto, unfolding(crate::specs::Command::gts_good))]
-fn gts_good(p: &[u8]) -> bool
-    ensures { result ≡ gts_good p.now }
-{
-    if p.len() != 8 {
-        return false;
+    if p.len() != len {
+        return None;
     }
-    starts_with(p, b"GTS002") & network_at(p)
-}
-
-// Whether `p` is TLI with its layout.
-#[tactic(auto, unfolding(crate::specs::Command::tli_good))]
-fn tli_good(p: &[u8]) -> bool
-    ensures { result ≡ tli_good p.now }
-{
-    if p.len() != 18 {
-        return false;
+    if !starts_with(p, head) {
+        return None;
     }
-    starts_with(p, b"TLI012") & (network_at(p) & all_text(&p[8..]))
+    let network = two_digits(&p[6..])?;
+    all_text(&p[8..]).then_some(network)
 }
 
 // Whether `p`, whose name is TLR, has its layout.
-#[tactic(auto, unfolding(crate::specs::Command::tlr_good))]
+#[tactic(auto, using(crate::proofs::Layouts::tlr_short, crate::proofs::Layouts::tlr_untold, crate::proofs::Layouts::tlr_told))]
 fn tlr_good(p: &[u8]) -> bool
     ensures { result ≡ tlr_good p.now }
 {
     if p.len() < 6 {
         return false;
     }
-    let told = three_digits(&p[3..]);
-    is_digit(p[3])
-        & (is_digit(p[4]) & (is_digit(p[5]) & ((told == p.len() - 6) & block_good(&p[6..]))))
+    let Some(told) = three_digits(&p[3..]) else {
+        return false;
+    };
+    (told == p.len() - 6) & block_good(&p[6..])
 }
 
-// The command of a payload that starts with OPN.
-fn opn(p: &[u8]) -> Command
-    ensures { result ≡ opn_of p.now }
+// The command of a payload that starts with the name of one that is a name alone.
+fn alone(p: &[u8], command: Command) -> Command
+    ensures { result ≡ alone_of command p.now }
 {
     if p.len() == 3 {
-        Command::Opn
+        command
     } else {
         Command::Unknown
     }
 }
 
 // The command of a payload that starts with GTS.
-#[tactic(auto, unfolding(crate::specs::Command::gts_good))]
+#[tactic(auto, using(crate::proofs::Layouts::gts_some, crate::proofs::Layouts::gts_none))]
 fn gts(p: &[u8]) -> Command
     ensures { result ≡ gts_of p.now }
 {
-    if gts_good(p) {
-        Command::Gts(network_of(p))
-    } else {
-        Command::GtsWrong
+    match network_in(p, b"GTS002", 8) {
+        Some(network) => Command::Gts(network),
+        None => Command::GtsWrong,
     }
 }
 
-// The command of a payload that starts with TLI.
-#[tactic(auto, unfolding(crate::specs::Command::tli_good))]
+// The command of a payload that starts with TLI, whose version has ten bytes.
+#[tactic(auto, using(crate::proofs::Layouts::tli_some, crate::proofs::Layouts::tli_none))]
 fn tli(p: &[u8]) -> Command
     ensures { result ≡ tli_of p.now }
 {
-    if tli_good(p) {
-        Command::Tli(network_of(p))
-    } else {
-        Command::TliWrong
+    match network_in(p, b"TLI012", 18) {
+        Some(network) => Command::Tli(network),
+        None => Command::TliWrong,
     }
 }
 
@@ -160,24 +117,13 @@ fn tlr(p: &[u8]) -> Command
     }
 }
 
-// The command of a payload that starts with TLE.
-fn tle(p: &[u8]) -> Command
-    ensures { result ≡ tle_of p.now }
-{
-    if p.len() == 3 {
-        Command::Tle
-    } else {
-        Command::Unknown
-    }
-}
-
 // Which command `payload` is.
 #[tactic(auto, unfolding(crate::specs::Command::command_of))]
 pub fn command_of(payload: &[u8]) -> Command
     ensures { row_of result ≡ row_of (command_of payload.now) }
 {
     if starts_with(payload, b"OPN") {
-        return opn(payload);
+        return alone(payload, Command::Opn);
     }
     if starts_with(payload, b"GTS") {
         return gts(payload);
@@ -189,7 +135,7 @@ pub fn command_of(payload: &[u8]) -> Command
         return tlr(payload);
     }
     if starts_with(payload, b"TLE") {
-        return tle(payload);
+        return alone(payload, Command::Tle);
     }
     Command::Unknown
 }

@@ -1,10 +1,10 @@
 // Which command a payload is, by its name and layout (scope paper, section Commands).
 #![tactic(auto)]
 
-ghost use Rattle.std.specs.Prelude.{◌≡◌, ◌≤◌, cond, length, eqb};
+ghost use Rattle.std.specs.Prelude.{◌≡◌, ◌≤◌};
 ghost use Rattle.command.specs.Texts.{starts, all_text};
 ghost use Rattle.command.specs.Command.{tlr_good, row_of, gts_of, tli_of, tlr_of, command_of};
-ghost use Rattle.command.specs.Steps.{network_in, alone_of};
+ghost use Rattle.command.specs.Steps.{network_in};
 
 use answer::digits::{is_text, three_digits, two_digits};
 use records::block_good;
@@ -73,17 +73,6 @@ fn tlr_good(p: &[u8]) -> bool
     (told == p.len() - 6) & block_good(&p[6..])
 }
 
-// The command of a payload that starts with the name of one that is a name alone.
-fn alone(p: &[u8], command: Command) -> Command
-    ensures { result ≡ alone_of command p.now }
-{
-    if p.len() == 3 {
-        command
-    } else {
-        Command::Unknown
-    }
-}
-
 // The command of a payload that starts with GTS.
 #[tactic(auto, using(crate::proofs::Layouts::gts_some, crate::proofs::Layouts::gts_none))]
 fn gts(p: &[u8]) -> Command
@@ -118,24 +107,16 @@ fn tlr(p: &[u8]) -> Command
 }
 
 // Which command `payload` is.
-#[tactic(auto, unfolding(crate::specs::Command::command_of))]
+#[tactic(auto, unfolding(crate::specs::Command::command_of, crate::specs::Texts::starts))]
 pub fn command_of(payload: &[u8]) -> Command
     ensures { row_of result ≡ row_of (command_of payload.now) }
 {
-    if starts_with(payload, b"OPN") {
-        return alone(payload, Command::Opn);
+    match payload {
+        b"OPN" => Command::Opn,
+        b"TLE" => Command::Tle,
+        [b'G', b'T', b'S', ..] => gts(payload),
+        [b'T', b'L', b'I', ..] => tli(payload),
+        [b'T', b'L', b'R', ..] => tlr(payload),
+        _ => Command::Unknown,
     }
-    if starts_with(payload, b"GTS") {
-        return gts(payload);
-    }
-    if starts_with(payload, b"TLI") {
-        return tli(payload);
-    }
-    if starts_with(payload, b"TLR") {
-        return tlr(payload);
-    }
-    if starts_with(payload, b"TLE") {
-        return alone(payload, Command::Tle);
-    }
-    Command::Unknown
 }

@@ -12,87 +12,55 @@
 //     P ROOM TAGS OBJECTS         the objects that are picked for the tags
 // ROOM is the size of the buffer that the call may write to, in one to five decimal digits, 0 to 8192; NUMBER goes to 65535 and N to
 // 99999. HEX, and each field like it, has two upper-case digits for each of at most 8192 bytes, or is `-` for none. One space stands before
-// each field. The log line of a call is `REFUSAL LENGTH OUT`, where OUT is the whole buffer afterwards, in the form of HEX; for F it is the part
-// that was handed back, and for O the line is `REFUSAL TAG HEADER WHOLE`. Any other line is logged as `bad line`. A last line counts with or without
-// its line end, and is logged with one.
+// each field. The log line of a call is `REFUSAL LENGTH OUT`, where REFUSAL is 0 and LENGTH what was answered, or REFUSAL is the number of a
+// refusal and LENGTH 0. OUT is the whole buffer afterwards, in the form of HEX; for F it is the part that was handed back, and for O the line is
+// `REFUSAL TAG HEADER WHOLE`. Any other line is logged as `bad line`. A last line counts with or without its line end, and is logged with one.
 #![tactic(auto)]
 
 mod calls;
 mod fields;
+mod lent;
 mod log;
 
-ghost use Rattle.std.specs.Prelude.{◌≡◌, ◌<◌, ◌≤◌, length, take, IfOk};
-ghost use Rattle.std.specs.Io.KnownBytes.{Consumes, IsAtEnd};
-
+use calls::Call;
+use script::read_full;
+use std::alloc::Global;
 use std::io;
-use std::io::{BufWriter, Read, Write};
+use std::io::{BufWriter, Write};
+
+// A longer script is cut.
+const LONGEST: usize = 1048576;
 
 // Reads the script and runs it. A full buffer can't tell whether the script went on: what was read is run, its last
 // line as it was cut, and the log then ends with `script too long`. A read or a write that fails ends the program.
 fn main(rt: HostRuntime) -> io::Result<()> {
-    let mut script = empty_script();
-    let mut input = rt.stdin();
-    let n = read_full(&mut input, &mut script)?;
-    let mut output = BufWriter::new(rt.alloc(), rt.stdout())?;
-    run_script(&mut output, &script[..n])?;
-    if n == 1048576 {
-        log::too_long(&mut output)?;
+    let alloc = rt.alloc();
+    let mut script = vec![in alloc; 0u8; LONGEST]?;
+    let n = read_full(&mut rt.stdin(), &mut script)?;
+    let mut output = BufWriter::new(alloc, rt.stdout())?;
+    run_script(&mut output, alloc, &script[..n])?;
+    if n == LONGEST {
+        writeln!(output, "script too long")?;
     }
     output.flush()
 }
 
-// Reads until `room` is full or the input ends, and answers how many bytes were put at the start of `room`.
-fn read_full<R: Read>(input: &mut R, room: &mut [u8]) -> io::Result<usize>
-    ensures in_bounds { IfOk result (λ n. n ≤ length room.new) }
-    ensures bytes { IfOk result (λ n. Consumes (R.remaining input.old) (R.remaining input.new) (take n room.new)) }
-    ensures end { IfOk result (λ n. n < length room.new → IsAtEnd (R.remaining input.new)) }
-{
-    let mut done = 0;
-    while done < room.len() {
-        let n = input.read(&mut room[done..])?;
-        if n == 0 {
-            break;
-        }
-        done += n;
-    }
-    Ok(done)
-}
-
-// Room for the longest script. Its `ensures` is all that `main` has to know of so long a list.
-fn empty_script() -> [u8; 1048576]
-    ensures { 1048576 ≡ length result }
-{
-    [0; 1048576]
-}
-
 // Runs each line of `script`.
-fn run_script<W: Write>(output: &mut W, script: &[u8]) -> io::Result<()> {
-    let mut at = 0;
-    while at < script.len() {
-        let rest = &script[at..];
-        let n = fields::line_length(rest);
-        run_line(output, &rest[0..n])?;
-        at += n + 1;
+fn run_script<W: Write>(output: &mut W, alloc: Global, script: &[u8]) -> io::Result<()> {
+    for ended in script.split_inclusive(|b| *b == b'\n') {
+        let line = ended.strip_suffix(b"\n").unwrap_or(ended);
+        run_line(output, alloc, line)?;
     }
     Ok(())
 }
 
-// Runs one line. Its first byte names the call.
-fn run_line<W: Write>(output: &mut W, line: &[u8]) -> io::Result<()> {
-    if line.len() == 0 {
-        return log::bad_line(output);
+// Runs one line.
+fn run_line<W: Write>(output: &mut W, alloc: Global, line: &[u8]) -> io::Result<()> {
+    if line.starts_with(b"#") {
+        return log::comment(output, line);
     }
-    let call = line[0];
-    match call {
-        b'#' => log::comment(output, line),
-        b'W' => calls::run_one(output, call, line),
-        b'R' => calls::run_one(output, call, line),
-        b'M' => calls::run_one(output, call, line),
-        b'L' => calls::run_two(output, call, line),
-        b'T' => calls::run_two(output, call, line),
-        b'P' => calls::run_two(output, call, line),
-        b'F' => calls::run_find(output, line),
-        b'O' => calls::run_object(output, line),
-        _ => log::bad_line(output),
+    match Call::of(line) {
+        Some(call) => call.make(output, alloc),
+        None => writeln!(output, "bad line"),
     }
 }

@@ -1,6 +1,0 @@
--- `i` goes through the bytes.
-use Rattle.std.proofs.Common.{length, ◌-◌}
-use Rattle.samples.proofs.log.put_hex.Given as goal
-
-abbrev pub decreases-loop-i : goal.decreases-loop-i
-decreases-loop-i l = length l.bytes - l.i

@@ -13,8 +13,9 @@
 // ROOM is the size of the buffer that the call may write to, in one to five decimal digits, 0 to 8192; NUMBER goes to 65535 and N to
 // 99999. HEX, and each field like it, has two upper-case digits for each of at most 8192 bytes, or is `-` for none. One space stands before
 // each field. The log line of a call is `REFUSAL LENGTH OUT`, where REFUSAL is 0 and LENGTH what was answered, or REFUSAL is the number of a
-// refusal and LENGTH 0. OUT is the whole buffer afterwards, in the form of HEX; for F it is the part that was handed back, and for O the line is
-// `REFUSAL TAG HEADER WHOLE`. Any other line is logged as `bad line`. A last line counts with or without its line end, and is logged with one.
+// refusal and LENGTH 0. OUT is the whole buffer afterwards, in the form of HEX; for F it is the part that was handed back, and for O the line
+// is `REFUSAL TAG HEADER WHOLE`, with three 0 behind a refusal. Any other line is logged as `bad line`. A last line counts with or without
+// its line end, and is logged with one.
 #![tactic(auto)]
 
 mod calls;

@@ -7,6 +7,8 @@ use lib.ListN.{length, get_or, drop}
 use lib.Dec.{leb, eqb}
 use borrow.Author.Tests.{eqb-true, leb-true}
 use Rattle.answer.specs.Digits.{is_digit, three_at}
+use native.Mathlib.Omega.{arith}
+use Rattle.answer.proofs.DigitLaws.{digit_nine}
 use Rattle.answer.proofs.Parts.{and_left, and_right}
 use Rattle.records.specs.Record.{good_block, records_of}
 use Rattle.tables.specs.Loading.{taken, taken_of}
@@ -14,7 +16,12 @@ use Rattle.command.specs.declared.Command.{Command}
 use Rattle.command.specs.declared.Command.TheVariants.{Opn, Gts, GtsWrong, Tli, TliWrong, Tlr, TlrWrong, Tle, Unknown}
 use Rattle.command.specs.Texts.{ascii, starts, all_text}
 use Rattle.command.specs.Command.{network_at, network_of, gts_good, tli_good, tlr_good, gts_of, tli_of, tlr_of, opn_of, tle_of, command_of}
-use Rattle.command.proofs.Layouts.{network_small}
+
+network_small : (p : List ℕ) → network_at p ≡ true → network_of p < 100
+network_small p e =
+    let a = digit_nine (get_or p 6 0) (and_left (is_digit (get_or p 6 0)) (is_digit (get_or p 7 0)) e) in
+    let b = digit_nine (get_or p 7 0) (and_right (is_digit (get_or p 6 0)) (is_digit (get_or p 7 0)) e) in
+    omega arith
 
 -- what the payload of a command holds
 abbrev Holding : List ℕ → Command → Type 0

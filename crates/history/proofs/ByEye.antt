@@ -5,8 +5,8 @@ use mathlib.Core.List.{List, [], ◌∷◌, ◌++◌, append_assoc, append-nil}
 use Prim.Native.Nat.{ℕ, zero, suc, ◌≤◌}
 use native.Mathlib.Omega.{arith}
 use lib.ListN.{length, drop}
-use Rattle.answer.specs.Answers.{Result}
-use Rattle.answer.specs.Answers.Result.{Good, Refused}
+use Rattle.std.specs.Prelude.{Ok, Err}
+use Rattle.answer.specs.Answers.{Output}
 use Rattle.packet.specs.Packet.{packet_of, read_packet}
 use Rattle.packet.proofs.Theorems.{packet_read}
 use Rattle.reception.specs.Reception.{idle}
@@ -160,9 +160,9 @@ not_bad : {p : List ℕ} → bad ≡ good p → ⊥
 not_bad e = let z : ◌≡◌ {A = ℕ} 0 1 = cc in omega arith
 
 -- only a success is found good
-good_result : (r : Result) (p : List ℕ) → item_of r ≡ good p → r ≡ Good p
-good_result (Good q) p e = ap Good (same_item e)
-good_result (Refused n) p e = absurd (not_bad e)
+good_result : (r : Output) (p : List ℕ) → item_of r ≡ good p → r ≡ Ok p
+good_result (Ok q) p e = ap (λ (x : List ℕ). let o : Output = Ok x in o) (same_item e)
+good_result (Err n) p e = absurd (not_bad e)
 
 -- data and checks that are found good are the packet of the payload found, which has 1 to 2,048 bytes
 pub good_read : (body : List ℕ) (a b : ℕ) (p : List ℕ) → found body a b ≡ good p

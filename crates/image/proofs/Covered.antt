@@ -14,10 +14,10 @@ use Rattle.history.proofs.Covered as device
 use Rattle.history.proofs.Theorems.{started_fresh}
 use Rattle.image.specs.declared.Image.{Image}
 use Rattle.image.specs.Image.{device_of}
-use Rattle.image.specs.ImagePromise.{Imaged, state_in, StartsImage}
+use Rattle.image.specs.ImagePromise.{imaged_by, Imaged, state_in, StartsImage}
 use Rattle.image.specs.ImageCalls.{Board, board_as, state_on, ImageCalls, CoveredOn}
 use Rattle.image.specs.ImageCalls.ImageCalls.{done, received, timed_out, restarts, refused_on}
-use Rattle.image.proofs.Imaging.{image_stays, image_goes, imaged_by, imaged}
+use Rattle.image.proofs.Imaging.{image_stays, image_goes, imaged}
 use Rattle.image.proofs.Back.{image_back}
 use Rattle.image.proofs.Demands.{started_in, starts_behind}
 

@@ -29,28 +29,34 @@ impl From<Device> for Image {
     #[tactic(auto, unfolding(crate::specs::Image::image_of))]
     fn from(device: Device) -> Image {
         let (state, first) = code(device.reception);
-        let held = device.held;
-        let live = device.tables.live;
-        let load = device.tables.load;
+        let Held { response, times } = device.held;
+        let Tables {
+            versions,
+            live,
+            load,
+        } = device.tables;
+        let payload = response.payload;
+        let version = load.version;
+        let store = device.store;
         Image {
             state,
             first,
             spoiled: flag(device.spoiled),
-            times: held.times,
+            times,
             opened: flag(load.opened),
             network: load.network,
             over: flag(load.kept.over),
             any: flag(load.any),
             count: device.count,
-            length: held.response.length,
+            length: response.length,
             liveused: live.used,
             liverecords: live.records,
             loadused: load.kept.used,
             loadrecords: load.kept.records,
-            payload: held.response.payload,
-            version: load.version,
-            versions: device.tables.versions,
-            store: device.store,
+            payload,
+            version,
+            versions,
+            store,
         }
     }
 }

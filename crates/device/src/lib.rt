@@ -29,7 +29,7 @@ pub struct Taken {
 }
 
 // A call that takes and writes nothing.
-const SILENT: Taken = Taken {
+pub const SILENT: Taken = Taken {
     taken: 0,
     written: 0,
 };

@@ -85,14 +85,7 @@ pub fn start_image(image: &mut Image, live: &mut [u8], loading: &mut [u8]) -> Ta
     ensures { StartsImage image.old live.old loading.old (record { image = image.new; answer = result }) live.new loading.new }
 {
     match device::start(live, loading) {
-        Ok(device) => answered(
-            image,
-            device,
-            Ok(device::Taken {
-                taken: 0,
-                written: 0,
-            }),
-        ),
+        Ok(device) => answered(image, device, Ok(device::SILENT)),
         Err(error) => refused(error),
     }
 }

@@ -66,10 +66,6 @@ starts xs = cases (leb 8 (length xs)) (length_good xs) (leb (three_at xs) (lengt
     cases true false c d e f g i h = absurd (h refl)
     cases false b c d e f g i h = absurd (h refl)
 
--- a record has 8 bytes at least
-pub record_eight : (xs : List ℕ) → (record_in xs ≡ 0 → ⊥) → 8 ≤ record_in xs
-record_eight xs h = let d = starts xs h in omega (arith, d.eight, d.is)
-
 -- lists that start with the same eight bytes
 record Same (xs ys : List ℕ) : Type 0 where
   three : three_at xs ≡ three_at ys
@@ -274,18 +270,5 @@ module _ (tail : List ℕ) (none : record_in tail ≡ 0) where
       (pieces_cons record_in record_le (r ++ (flatten rs ++ tail)) (length r) (record_append r (flatten rs ++ tail) (λ z. a.1 (sym a.0 ∙ z)) ∙ a.0) a.1
       ∙ rw (take_at r (flatten rs ++ tail) (length r) refl, drop_at r (flatten rs ++ tail) (length r) refl) (ap (λ (l : List (List ℕ)). r ∷ l) (recs_then rs a.2)))
 
--- ---- every record has 8 bytes at least
-
-abbrev pub AllEight : List (List ℕ) → Type 0
-AllEight [] = Unit {0}
-AllEight (r ∷ rs) = (8 ≤ length r) × AllEight rs
-
-pub all_eight : (rs : List (List ℕ)) → AllRecords rs → AllEight rs
-all_eight [] a = tt
-all_eight (r ∷ rs) a = let e = record_eight r (λ z. a.1 (sym a.0 ∙ z)) in (omega (arith, a.0, e), all_eight rs a.2)
-
 pub recs_all : (xs : List ℕ) → AllRecords (recs xs)
 recs_all = all_pieces record_in record_sizes
-
-pub recs_eight : (xs : List ℕ) → AllEight (recs xs)
-recs_eight xs = all_eight (recs xs) (recs_all xs)

@@ -227,6 +227,7 @@ pub extern "C" fn abecs_zero_store(store: &mut [u8])
 }
 
 // No array crosses by value, so the versions are brought up to date where they stand; of other sizes than 1,000 and ten bytes nothing changes.
+#[tactic(auto, using(crate::proofs::Whole::version_short))]
 #[unsafe(no_mangle)]
 pub extern "C" fn abecs_versions_after(versions: &mut [u8], network: u8, version: &[u8])
     ensures { versions.new ≡ versions_of network version.now versions.old }

@@ -19,13 +19,11 @@ impl From<Result<usize, Refusal>> for Answer {
     ghost from_gives = { IsAnswerOf };
 
     fn from(answer: Result<usize, Refusal>) -> Answer {
-        match answer {
-            Ok(length) => Answer { refusal: 0, length },
-            Err(refusal) => Answer {
-                refusal: u8::from(refusal),
-                length: 0,
-            },
-        }
+        let (refusal, length) = match answer {
+            Ok(length) => (0, length),
+            Err(refusal) => (u8::from(refusal), 0),
+        };
+        Answer { refusal, length }
     }
 }
 

@@ -13,7 +13,7 @@ use Rattle.execution.specs.Stored.{no_load}
 use Rattle.execution.specs.Promise.{tables_with, Drops}
 use Rattle.state.specs.declared.Held.{Held}
 use Rattle.state.specs.declared.Device.{Device}
-use Rattle.state.specs.State.{State, state_as, device_as, line_in, with_line, with_held, held_as, can_resend}
+use Rattle.state.specs.State.{State, state_as, line_in, with_line, with_held, held_as, can_resend}
 use Rattle.state.specs.Sound.{line_sound, held_sound, refusal_of}
 use Rattle.state.proofs.Accepting.{line_short}
 use Rattle.gathering.specs.declared.Gathered.{Gathered}

@@ -7,7 +7,7 @@ use lib.ListN.{length, take, drop, set, length-append, length-drop, length-take,
 use lib.Seq.{take_all}
 use borrow.Rule.Slice.PartMut.{put_mid}
 use borrow.Author.Tests.{le-ltb, ne_eqb}
-use Rattle.std.specs.Prelude.{Result, Ok, Err}
+use Rattle.std.specs.Prelude.{Result, Ok}
 use Rattle.answer.specs.declared.refusal.Refusal.{Refusal}
 use Rattle.answer.specs.Answers.{Output, Gives, over}
 use Rattle.packet.specs.Packet.{packet_of, write_packet}

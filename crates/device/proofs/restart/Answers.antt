@@ -1,5 +1,5 @@
 -- `device::restart` meets its contract: refused and unchanged, or the line goes idle, nothing is held, and the load is dropped.
-use Rattle.std.proofs.Common.{rules, refl, sym, length}
+use Rattle.std.proofs.Common.{refl, sym, length}
 use Rattle.state.specs.State.{state_as}
 use Rattle.state.proofs.Accepting.{accepted}
 use Rattle.device.specs.Promise.{after_event}

@@ -1,5 +1,5 @@
 -- `device::take_piece` meets its contract: bytes are gathered, and the one that is answered, if there is one, is answered.
-use Rattle.std.proofs.Common.{rules, ap, ◌∙◌}
+use Rattle.std.proofs.Common.{ap, ◌∙◌}
 use Rattle.state.specs.declared.Device.{Device}
 use Rattle.state.specs.State.{state_as, can_resend}
 use Rattle.state.proofs.Accepting.{held_short, line_good, held_good}

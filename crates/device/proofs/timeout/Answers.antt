@@ -1,5 +1,5 @@
 -- `device::timeout` meets its contract: refused and unchanged, or the line goes idle.
-use Rattle.std.proofs.Common.{rules, refl, sym, length}
+use Rattle.std.proofs.Common.{refl, sym, length}
 use Rattle.state.specs.State.{state_as}
 use Rattle.state.proofs.Accepting.{accepted, held_good}
 use Rattle.device.specs.Promise.{after_event}

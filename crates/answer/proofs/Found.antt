@@ -32,6 +32,3 @@ module _ (size : List ℕ → ℕ) (le : (xs : List ℕ) → size xs ≤ length 
 
   pub rest_lost : (let o : Option ℕ = None in o) ≡ found (size xs) → rest size xs ≡ xs
   rest_lost e = rest_same size le xs (found_none (size xs) e)
-
-  pub found_within : (n : ℕ) → (let o : Option ℕ = Some n in o) ≡ found (size xs) → (n ≤ length xs) × (0 < n)
-  found_within n e = let h = le xs in let i = found_is (size xs) n e in let s = found_some (size xs) n e in (omega arith, omega arith)

@@ -17,17 +17,9 @@ pasted_start s l = simp zero-add
 pub over_more : (s t l : List ℕ) → pasted (over s l) (length s) t ≡ over (s ++ t) l
 over_more s t l = simp (take-append_seam, drop-append-add, drop-drop, length-append)
 
--- the first byte, set before
-pub over_set : (x : ℕ) (s l : List ℕ) (y : ℕ) → over (x ∷ s) (set l 0 y) ≡ over (x ∷ s) l
-over_set x s [] y = refl
-over_set x s (a ∷ l) y = refl
-
 pub over_first : (x : ℕ) (l : List ℕ) → 0 < length l → set l 0 x ≡ over (x ∷ []) (set l 0 x)
 over_first x [] h = absurd (omega arith)
 over_first x (a ∷ l) h = refl
-
-pub set_two : (l : List ℕ) (at a b : ℕ) → at + 2 ≤ length l → set (set l at a) (at + 1) b ≡ pasted l at (a ∷ b ∷ [])
-set_two l at a b h = simp add-one (sets-eq (a ∷ b ∷ []) l at h)
 
 pub set_three : (l : List ℕ) (at a b c : ℕ) → at + 3 ≤ length l → set (set (set l at a) (at + 1) b) (at + 2) c ≡ pasted l at (a ∷ b ∷ c ∷ [])
 set_three l at a b c h =
@@ -41,12 +33,6 @@ pub over_long : (s l : List ℕ) → length s ≤ length l → length (over s l)
 over_long s l h = simp (length-append, length-drop) (omega arith)
 
 -- ---- bytes that are put where they fit
-
-pub put_none : (out : List ℕ) (at : ℕ) (s : List ℕ) → length out < at + length s → PutIf out at s at out
-put_none out at s h = record { bytes = simp (lt-leb (at + length s) (length out) h); next = simp (lt-leb (at + length s) (length out) h) }
-
-pub put_all : (out : List ℕ) (at : ℕ) (s : List ℕ) (r : ℕ) (out' : List ℕ) → at + length s ≤ length out → Puts out at s r out' → PutIf out at s r out'
-put_all out at s r out' h p = record { bytes = simp (le-leb (at + length s) (length out) h) p.bytes; next = simp (le-leb (at + length s) (length out) h) p.next }
 
 -- what a caller knows who saw to the room
 pub put_fits : (out : List ℕ) (at : ℕ) (s : List ℕ) (r : ℕ) (out' : List ℕ) → at + length s ≤ length out → PutIf out at s r out' → Puts out at s r out'

@@ -41,14 +41,6 @@ pub or_right : (a b : Bool) → (a || b) ≡ false → b ≡ false
 or_right true b e = absurd (true≢false e)
 or_right false b e = e
 
--- two comparisons that say the same
-pub leb_same : (a b c d : ℕ) → (a ≤ b → c ≤ d) → (c ≤ d → a ≤ b) → leb a b ≡ leb c d
-leb_same a b c d f g = cases (leb a b) refl
-  where
-    cases : (t : Bool) → leb a b ≡ t → t ≡ leb c d
-    cases true e = sym (le-leb c d (f (leb-true a b e)))
-    cases false e = sym (lt-leb c d (lt_of_not-le (λ h. true≢false (sym (le-leb a b (g h)) ∙ e))))
-
 -- ---- parts
 
 -- what `&s[at..]` hands over
@@ -63,26 +55,11 @@ drop_take [] (suc a) (suc e) = take-nil (suc e - suc a)
 drop_take (x ∷ s) (suc a) zero = ap (λ (n : ℕ). take n (drop a s)) (let h : 0 - suc a ≡ 0 = omega arith in h)
 drop_take (x ∷ s) (suc a) (suc e) = ap (λ (n : ℕ). take n (drop a s)) (suc-sub-suc e a) ∙ drop_take s a e
 
--- `&s[a..e]`, where e is a + n
-pub part_add : (l : List ℕ) (a n : ℕ) → take (a + n - a) l ≡ take n l
-part_add l a n = let e : a + n - a ≡ n = omega arith in ap (λ (k : ℕ). take k l) e
-
--- what `&s[at..at + n]` hands over
-pub piece_part : (s : List ℕ) (at n : ℕ) → take (at + n - at) (drop at s) ≡ take n (drop at s)
-piece_part s at n = let e : at + n - at ≡ n = omega arith in ap (λ (k : ℕ). take k (drop at s)) e
-
 -- what `&s[at + k..at + n]` hands over: what stands past the first k bytes of a piece of n
 pub inner_part : (s : List ℕ) (at k n : ℕ) → take (at + n - (at + k)) (drop (at + k) s) ≡ drop k (take n (drop at s))
 inner_part s at k n =
     let e : at + n - (at + k) ≡ n - k = omega arith in
     rw (e, ← drop-drop k at s) (drop_take (drop at s) k n)
-
--- the piece at a place, from a function that is handed what stands from there on
-pub piece_at : (size : List ℕ → ℕ) → ((xs : List ℕ) → size xs ≤ length xs) → (s : List ℕ) (at r : ℕ) → at ≤ length s
-    → r ≡ size (take (length s - at) (drop at s)) → PieceAt size s at r
-piece_at size le s at r h e =
-    let f : r ≡ size (drop at s) = e ∙ ap size (rest_part s at) in
-    record { is = f; within = omega (arith, simp length-drop at (le (drop at s)), f) }
 
 -- ---- joined lists
 

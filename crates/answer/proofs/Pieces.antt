@@ -69,9 +69,6 @@ module _ (size : List ℕ → ℕ) (le : (xs : List ℕ) → size xs ≤ length 
     pub piece_none : n ≡ 0 → pieces size (drop at xs) ≡ []
     piece_none z = pieces_stop (drop at xs) (sym e ∙ z)
 
-    pub rest_more : (n ≡ 0 → ⊥) → rest size (drop at xs) ≡ rest size (drop (at + n) xs)
-    rest_more h = rest_cons (drop at xs) n (sym e) h ∙ ap (rest size) (drop-drop n at xs)
-
     pub rest_stop : n ≡ 0 → rest size (drop at xs) ≡ drop at xs
     rest_stop z = rest_same (drop at xs) (sym e ∙ z)
 
@@ -82,18 +79,8 @@ module _ (size : List ℕ → ℕ) (le : (xs : List ℕ) → size xs ≤ length 
     pub within : at ≤ length xs → at + n ≤ length xs
     within h = let l = le (drop at xs) in omega (arith, e, simp length-drop at l)
 
-    pub whole_more : (n ≡ 0 → ⊥) → whole size (drop at xs) ≡ whole size (drop (at + n) xs)
-    whole_more h = ap is_none (rest_more h)
-
     pub whole_stop : n ≡ 0 → at < length xs → whole size (drop at xs) ≡ false
     whole_stop z h = ap is_none (rest_stop z) ∙ none_false (drop at xs) (simp length-drop (omega arith))
-
-  pub rest_end : (xs : List ℕ) (at : ℕ) → length xs ≤ at → rest size (drop at xs) ≡ []
-  unfolding rest_from
-  rest_end xs at h = rw (drop_of_length-le xs h) refl
-
-  pub whole_end : (xs : List ℕ) (at : ℕ) → length xs ≤ at → whole size (drop at xs) ≡ true
-  whole_end xs at h = ap is_none (rest_end xs at h)
 
   -- ---- how much there is of them
 

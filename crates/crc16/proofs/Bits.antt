@@ -34,11 +34,6 @@ pub odd_xor : (a b : ℕ) → odd (bit_xor a b) ≡ xor (odd a) (odd b)
 unfolding odd
 odd_xor a b = ap (λ (x : ℕ). eqb x 1) (xor_mod a b 1) ∙ small_xor (a % 2) (b % 2) (omega arith) (omega arith)
 
--- `x & 1 == 1` is the lowest bit's test
-pub odd_and : (x : ℕ) → odd x ≡ eqb (bit_and x 1) 1
-unfolding odd
-odd_and x = ap (λ (n : ℕ). eqb n 1) (sym (and_mask x 1))
-
 small_digit : (x : ℕ) → x < 2 → digit (eqb x 1) ≡ x
 small_digit zero h = refl
 small_digit (suc zero) h = refl

@@ -22,10 +22,6 @@ bits_of_append (x ∷ s) t = ap (λ (l : List Bool). bits 8 x ++ l) (bits_of_app
 pub register_bits : (r : ℕ) (p : List Bool) → r < 2 ^ 16 → bits 16 r ≡ p → r ≡ number p
 register_bits r p h e = let n : r % 2 ^ 16 ≡ r = omega arith in sym (number_bits 16 r ∙ n) ∙ ap number e
 
-zeros_bits : bits 16 0 ≡ zeros 16
-unfolding bits odd zeros
-zeros_bits = refl
-
 zeros_long : length (zeros 16) ≡ 16
 unfolding zeros
 zeros_long = refl

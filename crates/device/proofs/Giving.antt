@@ -30,13 +30,6 @@ use Rattle.device.proofs.Leaving.{line_to, gathered_in, piece_asked, piece_silen
 abbrev pub refused_with : Device → ℕ → Received
 refused_with d n = record { device = d; refusal = n; taken = 0; written = 0 }
 
--- a refused call leaves everything
-pub refused_gives : (x : State) (left : Left) (out : List ℕ) (n : ℕ) (r : Received) → n ≡ refusal_of (length out) x → (n ≡ 0 → ⊥) → r ≡ refused_with x.device n
-    → Answers x left out r out x.live x.loading
-refused_gives x left out zero r e h f = absurd (h refl)
-refused_gives x left out (suc n) r e h f =
-    subst (λ (k : ℕ). Gives k (unless k x left) out r out x.live x.loading) e (record { result = f; said = refl; live_is = refl; loading_is = refl })
-
 -- a call that is not refused
 pub good_gives : (x : State) (left : Left) (out : List ℕ) (n : ℕ) (r : Received) (out' live' loading' : List ℕ) → n ≡ refusal_of (length out) x → n ≡ 0
     → Gives 0 left out r out' live' loading' → Answers x left out r out' live' loading'

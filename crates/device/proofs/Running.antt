@@ -36,27 +36,6 @@ module _ (p : List ℕ) (s : Stored) (r : Executed) (live' loading' : List ℕ) 
   pub response_short : r.response.length ≤ 19
   response_short = omega (arith, length_is, responded_short p s)
 
-  -- and they are these
-  pub response_is : take r.response.length r.response.payload ≡ responded p s
-  response_is =
-      ap (λ (q : Response). take q.length q.payload) g.response
-      ∙ take_at (responded p s) (zeros (19 - length (responded p s))) (length (responded p s)) refl
-
--- THE COMMAND RAN, and the reply is 06h and the packet of its response
-pub ran_is : (x : State) (p : List ℕ) → p ≡ payload_in x.device → (r : Executed) (live' loading' : List ℕ) → Executes p (stored_in x) r live' loading'
-    → (out : List ℕ) (w : ℕ) (out' : List ℕ) → Sends (0x06 ∷ packet_of (take r.response.length r.response.payload)) out w out'
-    → Does (ran x) out (record { device = device_as idle x.device.store (record { response = r.response; times = 0 }) r.tables; written = w }) out' live' loading'
-ran_is x p e r live' loading' g out w out' q =
-    let h : Executes (payload_in x.device) (stored_in x) r live' loading' = subst (λ (y : List ℕ). Executes y (stored_in x) r live' loading') e g in
-    let t = response_is (payload_in x.device) (stored_in x) r live' loading' h in
-    let n : w ≡ length (0x06 ∷ packet_of (responded (payload_in x.device) (stored_in x))) = q.is ∙ ap (λ (l : List ℕ). length (0x06 ∷ packet_of l)) t in
-    record {
-      is = λ i. record { device = device_as idle x.device.store (record { response = h.response i; times = 0 }) (h.tables' i); written = n i };
-      said = q.said ∙ ap (λ (l : List ℕ). over (0x06 ∷ packet_of l) out) t;
-      live_is = h.live_is;
-      loading_is = h.loading_is;
-    }
-
 -- ---- which reply it is
 
 -- a complete packet that is good, and one that is not
@@ -76,30 +55,3 @@ does_as t u out r out' live' loading' e g = subst (λ (v : Told'). Does v out r 
 pub does_says : (x : State) (t : Told') (out : List ℕ) (r : Replied) (out' : List ℕ) → Says t out r out'
     → Does (tells (with_device x t.state.device) t.reply) out r out' x.live x.loading
 does_says x t out r out' s = record { is = s.is; said = s.said; live_is = refl; loading_is = refl }
-
--- a byte that is no CAN and is answered between packets is a NAK with something to send again
-pub is_nak : (b : ℕ) (resend : Bool) → (b ≡ 0x18 → ⊥) → asks_in Idle resend b ≡ true → resend ≡ true
-is_nak b resend n e = cases (eqb b 0x15) resend (rw (ne_eqb b 0x18 n) at e)
-  where
-    cases : (t u : Bool) → (t && u) ≡ true → u ≡ true
-    cases true u f = f
-    cases false u f = absurd (false≢true f)
-
-pub idle_can : (x : State) (b : ℕ) → x.device.reception ≡ Idle → b ≡ 0x18 → replied_in x.device.reception x b ≡ cancelled x
-idle_can x b e f = rw (e, eq-eqb b 0x18 f) refl
-
-pub idle_nak : (x : State) (b : ℕ) → x.device.reception ≡ Idle → (b ≡ 0x18 → ⊥) → replied_in x.device.reception x b ≡ resent x
-idle_nak x b e f = rw (e, ne_eqb b 0x18 f) refl
-
--- a byte in a state where none is answered
-pub none_said : (x : State) (b : ℕ) (k : Reception) (out : List ℕ) → x.device.reception ≡ k → replied_in k x b ≡ tells x []
-    → Does (replied_in x.device.reception x b) out (record { device = x.device; written = 0 }) out x.live x.loading
-none_said x b k out e f =
-    does_as _ (tells x []) out _ out _ _ (ap (λ (q : Reception). replied_in q x b) e ∙ f) (record { is = refl; said = refl; live_is = refl; loading_is = refl })
-
--- what there is to send again
-pub can_resend_lem : (h : Held) → can_resend h ≡ true → (1 ≤ h.response.length) × (h.times < 3)
-can_resend_lem h e = (
-  leb-true 1 h.response.length (and_left (leb 1 h.response.length) (ltb h.times 3) e),
-  ltb-true h.times 3 (and_right (leb 1 h.response.length) (ltb h.times 3) e),
-)

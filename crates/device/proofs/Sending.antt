@@ -38,9 +38,6 @@ over_long p l h = simp (length-append, length-drop) (omega arith)
 abbrev pub lent_behind : List ℕ → List ℕ
 lent_behind out = take (length out - 1) (drop 1 out)
 
-pub lent_long : (out : List ℕ) (b : ℕ) → length (lent_behind (set out 0 b)) ≡ length out - 1
-lent_long out b = simp (length-take, length-drop, length-set) (omega arith)
-
 -- a byte at the start, and then bytes written behind it
 pub behind : (b : ℕ) (out p s : List ℕ) → 1 ≤ length out → s ≡ over p (lent_behind (set out 0 b)) → put_mid 1 (length (set out 0 b) - 1) (set out 0 b) s ≡ over (b ∷ p) out
 behind b [] p s h e = absurd (omega arith)
@@ -49,6 +46,3 @@ behind b (x ∷ l) p s h e =
     let f : s ≡ over p l = e ∙ ap (over p) (ap (λ (k : ℕ). take k l) n ∙ take_all (length l) l (omega arith)) in
     let z : drop (suc (length l) - 1) l ≡ [] = drop_of_length-le l {i = suc (length l) - 1} (omega arith) in
     ap (λ (k : List ℕ). b ∷ k) (rw (z, append-nil s) f)
-
-pub behind_long : (b : ℕ) (out p s : List ℕ) → 1 ≤ length out → length p ≤ length out - 1 → s ≡ over p (lent_behind (set out 0 b)) → length (put_mid 1 (length (set out 0 b) - 1) (set out 0 b) s) ≡ length out
-behind_long b out p s h k e = ap length (behind b out p s h e) ∙ over_long (b ∷ p) out (omega arith)

@@ -35,15 +35,3 @@ pub imaged : (left : State → Left) (i : Image) (d : Device) (out live loading 
     → ImageAnswers i (left (state_in i live loading)) out live loading r out' live' loading'
 imaged left i d out live loading g r out' live' loading' e a f =
     gives _ i _ out g r out' live' loading' (subst (λ (k : Device). Answers (state_as k live loading) (left (state_as k live loading)) out g out' live' loading') e a) f
-
--- STARTING, as a call that leaves a fresh device
-pub starts_imaged : (i : Image) (live loading : List ℕ) (s : Started) (r : Imaged) (live' loading' : List ℕ) → Starts live loading s live' loading'
-    → r ≡ imaged_by i (record { device = s.device; refusal = s.refusal; taken = 0; written = 0 }) → StartsImage i live loading r live' loading'
-starts_imaged i live loading s r live' loading' a f =
-    cases (start_refusal live loading)
-    (f ∙ ap {B = Imaged} (λ (t : Started). imaged_by i (record { device = t.device; refusal = t.refusal; taken = 0; written = 0 })) a.result) a.live_is a.loading_is
-  where
-    cases : (n : ℕ) → r ≡ imaged_by i (record { device = (state_of fresh).device; refusal = n; taken = 0; written = 0 })
-        → live' ≡ (started_from n live loading).live → loading' ≡ (started_from n live loading).loading → ImageAnswersBy n i started_left [] live loading r [] live' loading'
-    cases zero e l o = record { result = e; said = refl; live_is = l; loading_is = o }
-    cases (suc n) e l o = record { result = e; said = refl; live_is = l; loading_is = o }

@@ -11,8 +11,8 @@ ghost use Rattle.board.specs.Board.{state_on};
 use answer::Refusal;
 use device::{Device, Taken};
 
-// A device, and its live and loading store.
-#[derive(Drop)]
+// A device, and its live and loading store. A call on it is refused as the device's is.
+#[derive(Clone, Debug, PartialEq, Eq, Drop)]
 pub struct Board {
     pub device: Device,
     pub live: [u8; 32768],
@@ -45,6 +45,7 @@ impl Board {
     pub fn receive(&mut self, piece: &[u8], out: &mut [u8]) -> Result<Taken, Refusal>
         ensures promise { Answers (state_on self.old) (after_piece piece.now (state_on self.old)) out.old (received self.new.device result) out.new self.new.live self.new.loading }
         ensures within { IfOk result (λ done. (done.taken ≤ length piece.now) × (done.written ≤ length out.old)) }
+        ensures gets_on { IfOk result (λ done. 1 ≤ length piece.now → 1 ≤ done.taken) }
     {
         device::receive(
             &mut self.device,

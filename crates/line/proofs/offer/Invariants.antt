@@ -1,9 +1,9 @@
--- What is taken lies within the piece, and what is put within the buffer.
-use Rattle.std.proofs.Common.{length, ◌-◌, ◌≤◌}
+-- What is put lies within the buffer.
+use Rattle.std.proofs.Common.{length, ◌≤◌}
 use Rattle.line.proofs.offer.Given as goal
 
-abbrev pub invariant-loop-at : goal.invariant-loop-at
-invariant-loop-at g l = (l.at ≤ length l.piece) × (l.used ≤ length l.out)
+abbrev pub invariant-loop-rest : goal.invariant-loop-rest
+invariant-loop-rest g l = l.used ≤ length l.out
 
-abbrev pub decreases-loop-at : goal.decreases-loop-at
-decreases-loop-at g l = length l.piece - l.at
+abbrev pub decreases-loop-rest : goal.decreases-loop-rest
+decreases-loop-rest g l = length l.rest

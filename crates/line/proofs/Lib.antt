@@ -1,2 +1,0 @@
--- How far a call can go.
-pub mod Bounds

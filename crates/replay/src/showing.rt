@@ -1,119 +1,88 @@
 // The state at the end of a script, field by field.
-use crate::log;
-use device::{Device, Held};
+use board::Board;
+use device::Held;
 use execution::OpenLoad;
+use packet::write_packet;
 use reception::Reception;
-use std::io;
+use script::Hex;
 use std::io::Write;
+use std::{fmt, io};
 
-// `reception NAME SPOILED COUNT`
-fn show_reception<W: Write>(output: &mut W, device: Device) -> io::Result<()> {
-    let reception = device.reception;
-    log::say(output, b"reception ")?;
-    match reception {
-        Reception::Idle => log::say(output, b"idle")?,
-        Reception::InData => log::say(output, b"data")?,
-        Reception::After13h => log::say(output, b"escape")?,
-        Reception::FirstCheck => log::say(output, b"first")?,
-        Reception::SecondCheck(first) => {
-            log::say(output, b"second-")?;
-            log::hex(output, first)?;
+// All of it.
+pub fn show<W: Write>(output: &mut W, board: &Board) -> io::Result<()> {
+    let device = &board.device;
+    let tables = &device.tables;
+    let extent = tables.live;
+    writeln!(
+        output,
+        "reception {} {} {}",
+        Name(device.reception),
+        u8::from(device.spoiled),
+        device.count
+    )?;
+    show_held(output, &device.held)?;
+    show_load(output, &tables.load)?;
+    writeln!(output, "live {} {}", extent.used, extent.records)?;
+    let live = Hex(start_of(&board.live, extent.used));
+    writeln!(output, "live-bytes {live}")?;
+    let loading = Hex(start_of(&board.loading, tables.load.kept.used));
+    writeln!(output, "loading-bytes {loading}")?;
+    show_versions(output, &tables.versions)?;
+    writeln!(output, "store {}", Hex(&device.store))
+}
+
+// The first `n` bytes, or all where there are fewer.
+fn start_of(s: &[u8], n: usize) -> &[u8] {
+    s.get(..n).unwrap_or(s)
+}
+
+// Shows where reception is.
+#[derive(Clone, Copy, Debug)]
+struct Name(Reception);
+
+impl fmt::Display for Name {
+    fn fmt<W: fmt::Write>(&self, f: &mut fmt::Formatter<W>) -> fmt::Result {
+        match self.0 {
+            Reception::Idle => f.write_str("idle"),
+            Reception::InData => f.write_str("data"),
+            Reception::After13h => f.write_str("escape"),
+            Reception::FirstCheck => f.write_str("first"),
+            Reception::SecondCheck(first) => write!(f, "second-{first:02X}"),
         }
     }
-    log::say(output, b" ")?;
-    log::flag(output, device.spoiled)?;
-    log::say(output, b" ")?;
-    log::number(output, device.count as u64)?;
-    log::say(output, b"\n")
 }
 
 // `held HEX TIMES`: the packet, as it would be sent again
-fn show_held<W: Write>(output: &mut W, held: Held) -> io::Result<()> {
-    let response = held.response;
-    let payload = response.payload;
+fn show_held<W: Write>(output: &mut W, held: &Held) -> io::Result<()> {
+    let response = &held.response;
+    let payload = start_of(&response.payload, response.length);
     let mut packet = [0u8; 64];
-    let k = log::within(response.length, &payload);
-    let sent = packet::write_packet(&payload[0..k], &mut packet);
-    let n = log::within(sent.length, &packet);
-    log::say(output, b"held ")?;
-    log::bytes(output, &packet[0..n])?;
-    log::say(output, b" ")?;
-    log::number(output, held.times as u64)?;
-    log::say(output, b"\n")
+    let n = write_packet(payload, &mut packet).unwrap_or(0);
+    writeln!(output, "held {} {}", Hex(start_of(&packet, n)), held.times)
 }
 
 // `load closed`, or `load open NN VERSION USED RECORDS OVER ANY`
-fn show_load<W: Write>(output: &mut W, load: OpenLoad) -> io::Result<()> {
+fn show_load<W: Write>(output: &mut W, load: &OpenLoad) -> io::Result<()> {
     if !load.opened {
-        return log::say(output, b"load closed\n");
+        return writeln!(output, "load closed");
     }
-    let version = load.version;
     let kept = load.kept;
-    log::say(output, b"load open ")?;
-    log::two_digits(output, load.network)?;
-    log::say(output, b" ")?;
-    log::bytes(output, &version)?;
-    log::say(output, b" ")?;
-    log::number(output, kept.used as u64)?;
-    log::say(output, b" ")?;
-    log::number(output, kept.records as u64)?;
-    log::say(output, b" ")?;
-    log::flag(output, kept.over)?;
-    log::say(output, b" ")?;
-    log::flag(output, load.any)?;
-    log::say(output, b"\n")
-}
-
-// A name, and the used part of a store.
-fn show_store<W: Write>(output: &mut W, name: &[u8], store: &[u8], used: usize) -> io::Result<()> {
-    let n = log::within(used, store);
-    log::say(output, name)?;
-    log::bytes(output, &store[0..n])?;
-    log::say(output, b"\n")
+    writeln!(
+        output,
+        "load open {:02} {} {} {} {} {}",
+        load.network,
+        Hex(&load.version),
+        kept.used,
+        kept.records,
+        u8::from(kept.over),
+        u8::from(load.any)
+    )
 }
 
 // `version NN HEX`, for each of the hundred networks
 fn show_versions<W: Write>(output: &mut W, versions: &[u8]) -> io::Result<()> {
-    let mut n: u8 = 0;
-    while n < 100 {
-        let from = log::within(n as usize * 10, versions);
-        let to = log::within(n as usize * 10 + 10, versions);
-        log::say(output, b"version ")?;
-        log::two_digits(output, n)?;
-        log::say(output, b" ")?;
-        if from <= to {
-            log::bytes(output, &versions[from..to])?;
-        }
-        log::say(output, b"\n")?;
-        n += 1;
+    for (n, version) in versions.chunks(10).enumerate() {
+        writeln!(output, "version {n:02} {}", Hex(version))?;
     }
     Ok(())
-}
-
-// All of it.
-pub fn show<W: Write>(
-    output: &mut W,
-    device: Device,
-    live: &[u8],
-    loading: &[u8],
-) -> io::Result<()> {
-    show_reception(output, device)?;
-    let held = device.held;
-    show_held(output, held)?;
-    let tables = device.tables;
-    let load = tables.load;
-    show_load(output, load)?;
-    let extent = tables.live;
-    log::say(output, b"live ")?;
-    log::number(output, extent.used as u64)?;
-    log::say(output, b" ")?;
-    log::number(output, extent.records as u64)?;
-    log::say(output, b"\n")?;
-    show_store(output, b"live-bytes ", live, extent.used)?;
-    let kept = load.kept;
-    show_store(output, b"loading-bytes ", loading, kept.used)?;
-    let versions = tables.versions;
-    show_versions(output, &versions)?;
-    let store = device.store;
-    show_store(output, b"store ", &store, 2048)
 }

@@ -1,9 +1,6 @@
--- A call stands within what is left of the script, and gets on.
-use Rattle.std.proofs.Common.{length, ◌-◌, ◌≤◌}
+-- Each call is at the start of what is left, and less is left after it.
+use Rattle.std.proofs.Common.{length}
 use Rattle.replay.proofs.run_script.Given as goal
 
-abbrev pub invariant-loop-at : goal.invariant-loop-at
-invariant-loop-at g l = l.at ≤ length l.script
-
-abbrev pub decreases-loop-at : goal.decreases-loop-at
-decreases-loop-at g l = length l.script - l.at
+abbrev pub decreases-loop-call : goal.decreases-loop-call
+decreases-loop-call g l = length l.rest

@@ -1,9 +1,6 @@
--- What is taken lies within the piece.
-use Rattle.std.proofs.Common.{length, ◌-◌, ◌≤◌}
+-- Where bytes are left, some were taken.
+use Rattle.std.proofs.Common.{length}
 use Rattle.replay.proofs.calls.offer.Given as goal
 
-abbrev pub invariant-loop-at : goal.invariant-loop-at
-invariant-loop-at g l = l.at ≤ length l.piece
-
-abbrev pub decreases-loop-at : goal.decreases-loop-at
-decreases-loop-at g l = length l.piece - l.at
+abbrev pub decreases-loop-got : goal.decreases-loop-got
+decreases-loop-got g l = length l.rest

@@ -6,6 +6,8 @@ use mathlib.Core.Bool.{true, false}
 use mathlib.Core.List.{List, []}
 use Prim.Native.Nat.{ℕ, zero, suc, ◌≤◌}
 use lib.ListN.{length}
+use Rattle.std.specs.Prelude.{Err}
+use Rattle.answer.specs.declared.refusal.Refusal.{Refusal}
 use Rattle.answer.specs.Answers.{Output}
 use Rattle.objects.specs.Object.{read_of}
 use Rattle.tables.specs.declared.Extent.{Extent}
@@ -23,12 +25,16 @@ use Rattle.abecs.specs.declared.numbered.LoadOf.{LoadOf}
 use Rattle.abecs.specs.declared.numbered.ClosedOf.{ClosedOf}
 use Rattle.abecs.specs.declared.numbered.Answer.{Answer}
 use Rattle.abecs.specs.declared.numbered.ObjectOf.{ObjectOf}
-use Rattle.abecs.specs.Numbered.{Gives, object_as}
+use Rattle.abecs.specs.Numbered.{Gives, object_as, IsAnswerOf}
 use Rattle.abecs.specs.Flags.{AddsOf, ClosesOf}
 
 -- two answers of a codec call that its promise allows are one, answer and buffer
 pub gives_one : (output : Output) (out : List ℕ) (r s : Answer) (o o' : List ℕ) → Gives output out r o → Gives output out s o' → (r ≡ s) × (o ≡ o')
 gives_one output out r s o o' g h = (g.answer ∙ sym h.answer, g.bytes ∙ sym h.bytes)
+
+-- two answers that a refusal comes to are one
+pub refused_one : (e : Refusal) (r s : Answer) → IsAnswerOf (Err e) r → IsAnswerOf (Err e) s → r ≡ s
+refused_one e r s i j = i ∙ sym j
 
 pub read_object_one : (input : List ℕ) (r s : ObjectOf) → r ≡ object_as (read_of input) → s ≡ object_as (read_of input) → r ≡ s
 read_object_one input r s e f = e ∙ sym f

@@ -8,7 +8,7 @@ use native.Mathlib.Numerals.{add-one}
 use lib.ListN.{length, take, length-drop, set, length-append, take-append-drop}
 use lib.Seq.{length-take-le, take-append_seam, drop-append-add, drop-drop, sets-eq}
 use Rattle.answer.specs.Answers.{over}
-use borrow.Author.Tests.{lt-leb, le-leb}
+use borrow.Author.Tests.{le-leb}
 use Rattle.answer.specs.Laid.{pasted, Puts, PutIf}
 
 pub pasted_start : (s l : List ℕ) → pasted l 0 s ≡ over s l

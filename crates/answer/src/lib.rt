@@ -23,6 +23,7 @@ pub fn give(s: &[u8], out: &mut [u8]) -> Result<usize, Refusal>
 }
 
 // Puts the bytes of `s` at `at` and tells the place after them. Where they do not fit nothing is put, and the place is `at`.
+// A place beside the buffer and no cursor that holds both: of a buffer that a struct lends on, each promise would have to say that it is still the same.
 pub fn put(out: &mut [u8], at: usize, s: &[u8]) -> usize
     ensures { PutIf out.old at s.now result out.new }
 {

@@ -12,7 +12,11 @@ use Rattle.state.specs.Sound.{refusal_of}
 use Rattle.device.specs.Machine.{Machine, Stepped, Called, step, is_none, one_more, call}
 use Rattle.device.specs.Events.Event.{byte}
 use Rattle.device.specs.Between.{machine_of}
-use Rattle.device.specs.Promise.{Started, Received, Left, after_piece, unless, Gives, Answers, Starts}
+use Rattle.std.specs.Prelude.{Result, Ok, Err}
+use Rattle.answer.specs.declared.refusal.Refusal.{Refusal}
+use Rattle.answer.proofs.Promises.{some_number, same_number}
+use Rattle.device.specs.declared.Taken.{Taken}
+use Rattle.device.specs.Promise.{Started, Received, Left, after_piece, unless, Gives, Answers, Starts, received, started}
 use Rattle.device.specs.Claims.{Unchanged}
 
 -- ---- ONE RESULT: two results of a call that its promise allows for one entry are one
@@ -92,3 +96,24 @@ pub taken_within : (x : State) (piece out : List ℕ) (r : Received) (out' live'
 taken_within x piece out r out' live' loading' g =
     let e : r.taken ≡ (unless (refusal_of (length out) x) x (after_piece piece x)).taken = ap {B = ℕ} (λ (q : Received). q.taken) g.result in
     subst (λ (n : ℕ). n ≤ length piece) (sym e) (piece_taken (refusal_of (length out) x) x piece)
+
+-- ---- an answer in numbers stands for one answer
+
+-- two devices and answers that come to the same numbers are one
+pub received_one : (d e : Device) (r s : Result Taken Refusal) → received d r ≡ received e s → (d ≡ e) × (r ≡ s)
+received_one d e (Ok t) (Ok u) i = (
+  ap (λ (q : Received). q.device) i,
+  (λ j. Ok (record { taken = (i j).taken; written = (i j).written })),
+)
+received_one d e (Ok t) (Err b) i = absurd (some_number b (sym (ap (λ (q : Received). q.refusal) i)))
+received_one d e (Err a) (Ok u) i = absurd (some_number a (ap (λ (q : Received). q.refusal) i))
+received_one d e (Err a) (Err b) i = (
+  ap (λ (q : Received). q.device) i,
+  ap (λ (k : Refusal). let z : Result Taken Refusal = Err k in z) (same_number a b (ap (λ (q : Received). q.refusal) i)),
+)
+
+pub started_one : (r s : Result Device Refusal) → started r ≡ started s → r ≡ s
+started_one (Ok d) (Ok e) i = λ j. Ok (i j).device
+started_one (Ok d) (Err b) i = absurd (some_number b (sym (ap (λ (q : Started). q.refusal) i)))
+started_one (Err a) (Ok e) i = absurd (some_number a (ap (λ (q : Started). q.refusal) i))
+started_one (Err a) (Err b) i = ap (λ (k : Refusal). let z : Result Device Refusal = Err k in z) (same_number a b (ap (λ (q : Started). q.refusal) i))

@@ -15,7 +15,7 @@ pub use judging::is_response;
 use tables::{Extent, Load};
 
 // The open load: what TLI named, the extent of the records kept and whether one was not, and whether a TLR was answered 000. With no load open
-// every field is 0.
+// every field is 0: a flag and not an Option, since a caller may hand in any struct, and one that breaks this is refused.
 #[derive(Clone, Copy, Debug, PartialEq, Eq)]
 pub struct OpenLoad {
     pub opened: bool,
@@ -33,7 +33,7 @@ pub struct Tables {
     pub load: OpenLoad,
 }
 
-// A response's payload, zeros after it, and its length.
+// A response's payload, zeros after it, and its length: in fixed memory, and any two may be handed in, which refusal 3 judges.
 #[derive(Clone, Copy, Debug, PartialEq, Eq)]
 pub struct Response {
     pub payload: [u8; 19],

@@ -61,7 +61,7 @@ impl From<Device> for Image {
     }
 }
 
-// The state that a number stands for.
+// The state that a number stands for. Any number has one: what is no image is refused as 3 by the call, after 1 and 2, and not here.
 #[tactic(auto, unfolding(reception::specs::Cases::reception_of))]
 fn reception_of(code: u8, first: u8) -> Reception
     ensures { result ≡ reception_of code first }

@@ -90,7 +90,8 @@ pub fn start_image(image: &mut Image, live: &mut [u8], loading: &mut [u8]) -> Ta
     }
 }
 
-// Takes a piece of the line's bytes.
+// Takes a piece of the line's bytes. Here and below a call of its own for each of the device's: a closure that holds the buffers would have to promise
+// what they become.
 pub fn receive_image(
     image: &mut Image,
     piece: &[u8],

@@ -11,7 +11,7 @@ use answer::Refusal;
 pub use parameter::{Parameter, parameter_at, whole_list};
 pub use search::find;
 
-// What `find` finds; an empty part at the list's start where it refuses.
+// What `find` finds; an empty part at the list's start where it refuses. It stands beside `find` for callers of a call that never fails.
 #[tactic(auto, using(crate::proofs::Finding::start_lost))]
 pub fn find_parameter<'a>(list: &'a [u8], number: u16, n: usize) -> &'a [u8]
     ensures { Handed list.entry number n result }
@@ -19,7 +19,7 @@ pub fn find_parameter<'a>(list: &'a [u8], number: u16, n: usize) -> &'a [u8]
     find(list, number, n).unwrap_or(&list[..0])
 }
 
-// The refusal of `find` for the same inputs; none where it found one.
+// The refusal of `find` for the same inputs; none where it found one. It goes with `find_parameter`.
 pub fn find_refusal(list: &[u8], number: u16, n: usize) -> Option<Refusal>
     ensures { result ≡ refusal_of (find list.now number n) }
 {

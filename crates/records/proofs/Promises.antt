@@ -6,8 +6,11 @@ use Prim.Native.Nat.{ℕ}
 use lib.ListN.{length, drop}
 use Rattle.std.specs.Prelude.{Option}
 use Rattle.records.specs.declared.record.Record.{Record}
-use Rattle.records.specs.Record.{found_in, good_block, takes_as, names_as}
+use Rattle.records.specs.Record.{found_in, good_block, takes_as, names_as, record_as}
 use Rattle.records.specs.Store.{zeros, all_zero, sound_store}
+
+pub record_of_one : (bytes : List ℕ) (r t : Record) → r ≡ record_as bytes → t ≡ record_as bytes → r ≡ t
+record_of_one bytes r t e f = e ∙ sym f
 
 pub record_at_one : (s : List ℕ) (at : ℕ) (r t : Option Record) → r ≡ found_in (drop at s) → t ≡ found_in (drop at s) → r ≡ t
 record_at_one s at r t e f = e ∙ sym f

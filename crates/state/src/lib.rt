@@ -10,14 +10,16 @@ use execution::{Response, Tables};
 use reception::{Line, Reception};
 pub use refusing::sizes_good;
 
-// The held response, and how often its packet was sent again. With nothing held every field is 0.
+// The held response, and how often its packet was sent again. With nothing held every field is 0, and no
+// Option says so, since any may be handed in, and refusal 3 judges it.
 #[derive(Clone, Copy, Debug, PartialEq, Eq)]
 pub struct Held {
     pub response: Response,
     pub times: u8,
 }
 
-// The device. The live and the loading store are lent to each call.
+// The device. The live and the loading store are lent to each call, as two slices: of slices that a struct lends on, each promise would have to say
+// that they are still the same. Where the line is stands in three fields, as in the image that C keeps; `line` and `set_line` go between.
 #[derive(Clone, Copy, Debug, PartialEq, Eq)]
 pub struct Device {
     pub reception: Reception,

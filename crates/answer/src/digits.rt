@@ -6,14 +6,14 @@ ghost use Rattle.answer.specs.Digits.{is_digit, is_text, digit_of, two_in, three
 pub fn is_digit(b: u8) -> bool
     ensures { result ≡ is_digit b }
 {
-    (0x30 <= b) & (b <= 0x39)
+    matches!(b, 0x30..=0x39)
 }
 
 // Whether `b` is a byte of a text, 20h to 7Eh.
 pub fn is_text(b: u8) -> bool
     ensures { result ≡ is_text b }
 {
-    (0x20 <= b) & (b <= 0x7e)
+    matches!(b, 0x20..=0x7e)
 }
 
 // What a digit stands for: 30h to 39h are 0 to 9, which is what their low four bits are.
@@ -23,18 +23,15 @@ pub fn digit_of(b: u8) -> usize
     (b % 16) as usize
 }
 
-// The number that the two digits at the start of `s` write; none where it does not start with two.
+// The number that the two digits at the start of `s` write; none where it does not start with two. The two calls differ in their
+// patterns and sums, which no count as a parameter makes one.
 #[tactic(auto, unfolding(crate::specs::Digits::two_in))]
 pub fn two_digits(s: &[u8]) -> Option<u8>
     ensures { result ≡ two_in s.now }
 {
-    if s.len() < 2 {
-        return None;
-    }
-    if is_digit(s[0]) & is_digit(s[1]) {
-        Some((digit_of(s[0]) * 10 + digit_of(s[1])) as u8)
-    } else {
-        None
+    match s {
+        &[a, b, ..] if is_digit(a) & is_digit(b) => Some((digit_of(a) * 10 + digit_of(b)) as u8),
+        _ => None,
     }
 }
 
@@ -43,12 +40,10 @@ pub fn two_digits(s: &[u8]) -> Option<u8>
 pub fn three_digits(s: &[u8]) -> Option<usize>
     ensures { result ≡ three_in s.now }
 {
-    if s.len() < 3 {
-        return None;
-    }
-    if is_digit(s[0]) & (is_digit(s[1]) & is_digit(s[2])) {
-        Some(digit_of(s[0]) * 100 + digit_of(s[1]) * 10 + digit_of(s[2]))
-    } else {
-        None
+    match s {
+        &[a, b, c, ..] if is_digit(a) & (is_digit(b) & is_digit(c)) => {
+            Some(digit_of(a) * 100 + digit_of(b) * 10 + digit_of(c))
+        }
+        _ => None,
     }
 }

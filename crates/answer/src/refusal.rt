@@ -1,6 +1,9 @@
 // The refusals of calls, each with the number under which it is known outside (scope paper, section Numbered refusals of calls).
 ghost use Rattle.answer.specs.Refusals.{IsNumberOf};
 
+use std::error::Error;
+use std::fmt;
+
 // Why a call was refused.
 #[derive(Clone, Copy, Debug, PartialEq, Eq)]
 pub enum Refusal {
@@ -56,3 +59,11 @@ impl From<Refusal> for u8 {
         }
     }
 }
+
+impl fmt::Display for Refusal {
+    fn fmt<W: fmt::Write>(&self, f: &mut fmt::Formatter<W>) -> fmt::Result {
+        write!(f, "refusal {}", u8::from(*self))
+    }
+}
+
+impl Error for Refusal {}

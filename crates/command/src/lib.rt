@@ -23,7 +23,7 @@ pub enum Command {
     Unknown,
 }
 
-// Whether `p` starts with `s`.
+// Whether `p` starts with `s`: a call of its own, whose promise is in the table's words.
 #[tactic(auto, using(crate::proofs::Texts::starts_same))]
 pub fn starts_with(p: &[u8], s: &[u8]) -> bool
     ensures { result ≡ starts s.now p.now }
@@ -73,7 +73,7 @@ fn tlr_good(p: &[u8]) -> bool
     (told == p.len() - 6) & block_good(&p[6..])
 }
 
-// The command of a payload that starts with GTS.
+// The command of a payload that starts with GTS. Here and for TLI a function of its own, since the names, lengths and cases that differ are all there is.
 #[tactic(auto, using(crate::proofs::Layouts::gts_some, crate::proofs::Layouts::gts_none))]
 fn gts(p: &[u8]) -> Command
     ensures { result ≡ gts_of p.now }

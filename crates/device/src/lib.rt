@@ -48,7 +48,7 @@ fn fresh_device() -> Device
     }
 }
 
-// Starts a fresh device and zeroes both stores. Refusal: 2.
+// Starts a fresh device and zeroes both stores. Refusal: 2. The calls are functions, as the type of a device is another crate's.
 pub fn start(live: &mut [u8], loading: &mut [u8]) -> Result<Device, Refusal>
     ensures { Starts live.old loading.old (started result) live.new loading.new }
 {

@@ -75,9 +75,7 @@ fn run(device: &mut Device, out: &mut [u8], live: &mut [u8], loading: &mut [u8])
 fn is_good(spoiled: bool, payload: &[u8], first: u8, second: u8) -> bool
     ensures { result ≡ good_packet spoiled payload.now first second }
 {
-    let check = crc16::check_of(payload);
-    !spoiled
-        & ((1 <= payload.len()) & ((first as u16 == check / 256) & (second as u16 == check % 256)))
+    !spoiled & (!payload.is_empty() & ([first, second] == crc16::check_of(payload).to_be_bytes()))
 }
 
 // The second check byte: the packet is complete.
@@ -119,9 +117,7 @@ pub(crate) fn reply_to(
                 resend(device, out)
             }
         }
-        Reception::InData => 0,
-        Reception::After13h => 0,
-        Reception::FirstCheck => 0,
         Reception::SecondCheck(first) => complete(device, first, b, out, live, loading),
+        _ => 0,
     }
 }

@@ -1,12 +1,15 @@
 -- What the calls on an image promise: those of the device behind it, and a refused call leaves the image as it was, whatever its bytes.
-use Rattle.std.specs.Prelude.{ℕ, zero, suc, ◌≡◌, List, [], length}
+use Rattle.std.specs.Prelude.{ℕ, zero, suc, ◌≡◌, List, [], length, Result, Ok, Err}
 use Rattle.answer.specs.Answers.{over}
+use Rattle.answer.specs.declared.refusal.Refusal.{Refusal}
+use Rattle.answer.specs.Refusals.{number_of}
 use Rattle.state.specs.declared.Device.{Device}
 use Rattle.state.specs.State.{State, state_as}
 use Rattle.state.specs.Sound.{refusal_of}
 use Rattle.device.specs.Events.Event.{timeout, restart}
 use Rattle.device.specs.Machine.{fresh}
 use Rattle.device.specs.Between.{state_of}
+use Rattle.device.specs.declared.Taken.{Taken as Done}
 use Rattle.device.specs.Promise.{Received, Left, after_piece, after_event, unless, start_refusal}
 use Rattle.image.specs.declared.Image.{Image}
 use Rattle.image.specs.declared.Taken.{Taken}
@@ -15,6 +18,14 @@ use Rattle.image.specs.Image.{image_of, device_of}
 -- the state that an image and two stores stand for
 abbrev pub state_in : Image → List ℕ → List ℕ → State
 state_in i live loading = state_as (device_of i) live loading
+
+-- a call's answer for C: the refusal's number or 0, and nothing taken and written where it is refused
+abbrev pub taken_of : Result Done Refusal → Taken
+taken_of (Ok t) = record { refusal = 0; taken = t.taken; written = t.written }
+taken_of (Err e) = record { refusal = number_of e; taken = 0; written = 0 }
+
+abbrev pub IsTakenOf : Result Done Refusal → Taken → Type 0
+IsTakenOf answer taken = taken ≡ taken_of answer
 
 -- the image after a call, and the call's answer
 pub record Imaged : Type 0 where

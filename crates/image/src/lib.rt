@@ -4,17 +4,16 @@
 mod converting;
 
 ghost use Rattle.std.specs.Prelude.{◌≡◌};
-ghost use Rattle.answer.specs.Refusals.{number_of};
 ghost use Rattle.device.specs.Promise.{received};
 ghost use Rattle.image.specs.Image.{flag_of};
-ghost use Rattle.image.specs.ImagePromise.{imaged_by, StartsImage, ReceivesImage, TimesOutImage, RestartsImage};
+ghost use Rattle.image.specs.ImagePromise.{IsTakenOf, imaged_by, StartsImage, ReceivesImage, TimesOutImage, RestartsImage};
 
 use answer::Refusal;
 use device::Device;
 
 // Every byte of a device. `state` is 0 to 4, `first` the first check byte in state 4 and else 0; spoiled, opened, over and any are 0 or 1.
 #[repr(C)]
-#[derive(Clone, Copy)]
+#[derive(Clone, Copy, Debug, PartialEq, Eq)]
 pub struct Image {
     pub state: u8,
     pub first: u8,
@@ -52,14 +51,22 @@ pub fn flag(b: bool) -> u8
     u8::from(b)
 }
 
-// A refused call has taken and written nothing.
-fn refused(refusal: Refusal) -> Taken
-    ensures { result ≡ record { refusal = number_of refusal; taken = 0; written = 0 } }
-{
-    Taken {
-        refusal: u8::from(refusal),
-        taken: 0,
-        written: 0,
+impl From<Result<device::Taken, Refusal>> for Taken {
+    ghost from_gives = { IsTakenOf };
+
+    fn from(answer: Result<device::Taken, Refusal>) -> Taken {
+        match answer {
+            Ok(done) => Taken {
+                refusal: 0,
+                taken: done.taken,
+                written: done.written,
+            },
+            Err(refusal) => Taken {
+                refusal: u8::from(refusal),
+                taken: 0,
+                written: 0,
+            },
+        }
     }
 }
 
@@ -67,26 +74,19 @@ fn refused(refusal: Refusal) -> Taken
 fn answered(image: &mut Image, device: Device, got: Result<device::Taken, Refusal>) -> Taken
     ensures { record { image = image.new; answer = result } ≡ imaged_by image.old (received device got) }
 {
-    match got {
-        Ok(done) => {
-            *image = Image::from(device);
-            Taken {
-                refusal: 0,
-                taken: done.taken,
-                written: done.written,
-            }
-        }
-        Err(refusal) => refused(refusal),
+    if got.is_ok() {
+        *image = Image::from(device);
     }
+    Taken::from(got)
 }
 
-// Starts a fresh device. A refused call leaves the image as it was.
+// Starts a fresh device. A refused call leaves the image as it was. The calls are known by these names, and are no methods.
 pub fn start_image(image: &mut Image, live: &mut [u8], loading: &mut [u8]) -> Taken
     ensures { StartsImage image.old live.old loading.old (record { image = image.new; answer = result }) live.new loading.new }
 {
     match device::start(live, loading) {
         Ok(device) => answered(image, device, Ok(device::SILENT)),
-        Err(error) => refused(error),
+        Err(error) => Taken::from(Err(error)),
     }
 }
 

@@ -45,7 +45,7 @@ pub(crate) fn whole_lists(body: &[u8]) -> bool
     pieces_of::<Block>(body).all(|block| whole_list(held(block)))
 }
 
-// How many bytes the blocks of `body` hold together.
+// How many bytes the blocks of `body` hold together. By a `for`, which knows that they fit: a sum after `map` would have to be told.
 #[tactic(auto, using(crate::proofs::Blocks::joined_more, crate::proofs::Blocks::joined_le, crate::proofs::Blocks::held_none))]
 pub(crate) fn joined_length(body: &[u8]) -> usize
     ensures { result ≡ length (flatten (blocks_of body.now)) }

@@ -71,9 +71,8 @@ fn put_packet(payload: &[u8], out: &mut [u8])
     requires { length (packet_of payload.now) ≤ length out.old }
     ensures { out.new ≡ over (packet_of payload.now) out.old }
 {
-    let text = put_stuffed(payload, out);
-    let at = text.at;
-    put_ending(out, at, crc16::step(text.register, 0x17));
+    let Stuffed { at, register } = put_stuffed(payload, out);
+    put_ending(out, at, crc16::step(register, 0x17));
 }
 
 // Puts SYN and the payload with substitutions over the start of `out`. The check meets each byte before its substitution.
@@ -191,7 +190,8 @@ fn judge(body: &[u8]) -> Option<Body>
 }
 
 // Undoes the substitutions of a body that was judged: the second byte of each pair is 20h over the payload byte.
-// By `Symbols`, which judges once more, it takes twice the time.
+// By `Symbols`, which judges once more, a packet takes a sixth more time to read; and the place in `out` is a number, since a byte stands for one
+// byte or two.
 fn undo(body: &[u8], out: &mut [u8])
     requires { Room (unstuff body.now) out.old }
     ensures { out.new ≡ over (payload_in (unstuff body.now)) out.old }

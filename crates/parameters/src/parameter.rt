@@ -41,7 +41,7 @@ pub fn parameter_at(s: &[u8], at: usize) -> Option<usize>
     Parameter::size_in(s.get(at..)?)
 }
 
-// Whether `list` is parameters and nothing else.
+// Whether `list` is parameters and nothing else: a call of its own, as others promise by it.
 pub fn whole_list(list: &[u8]) -> bool
     ensures { result ≡ whole_list list.now }
 {

@@ -55,7 +55,7 @@ took_back_lem t =
 pub answer_one : (r s : Took) → answer_of r ≡ answer_of s → r ≡ s
 answer_one r s e = sym (took_back_lem r) ∙ ap took_back e ∙ took_back_lem s
 
--- ---- ONE RESULT: two results that the promise of `take` allows are one, and so for `idle_line`
+-- ---- ONE RESULT: two results that the promise of `take` allows are one, and so for `Line::idle`
 
 pub take_one : (line : Line) (b : ℕ) (r s : Took) → answer_of r ≡ answer_of (taken line b) → answer_of s ≡ answer_of (taken line b) → r ≡ s
 take_one line b r s e f = answer_one r s (e ∙ sym f)

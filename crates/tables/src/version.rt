@@ -3,7 +3,7 @@ ghost use Rattle.std.specs.Prelude.{◌≡◌, length, replicate};
 ghost use mathlib.Core.List.{flatten};
 ghost use Rattle.tables.specs.Closing.{new_versions};
 
-// Puts the version in each of the hundred places, each at its network's ten bytes.
+// Puts the version in each of the hundred places, by its number as `versions_after` puts one: chunks of ten would say it in two ways.
 #[tactic(auto, using(crate::proofs::Versions::none_yet, crate::proofs::Versions::version_more))]
 fn put_everywhere(versions: &mut [u8], version: &[u8])
     requires { (length versions.old ≡ 1000) × (length version.now ≡ 10) }

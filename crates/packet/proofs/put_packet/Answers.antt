@@ -16,15 +16,15 @@ use Rattle.answer.proofs.Laid.{pasted_start, over_long}
 use Rattle.packet.proofs.Stuffing.{packet_long, packet_laid}
 use Rattle.packet.proofs.put_packet.Goals as goal
 
-pub put_stuffed-text-requires : goal.put_stuffed-text-requires
-put_stuffed-text-requires c = omega (arith, packet_long c.args.payload.now, c.requires)
+pub put_stuffed-at-requires : goal.put_stuffed-at-requires
+put_stuffed-at-requires c = omega (arith, packet_long c.args.payload.now, c.requires)
 
 pub put_ending-requires : goal.put_ending-requires
 put_ending-requires c =
     let a = c.args in
     let p = a.payload.now in
     let o = a.out.now in
-    let q = c.put_stuffed-text in
+    let q = c.put_stuffed-at in
     let n = packet_long p in
     let at : q.result.at ≡ length (0x16 ∷ stuff p) = q.ensures.put.next ∙ zero-add (length (0x16 ∷ stuff p)) in
     let old : q.new.out ≡ over (0x16 ∷ stuff p) o = q.ensures.put.bytes ∙ pasted_start (0x16 ∷ stuff p) o in
@@ -37,7 +37,7 @@ returns c =
     let a = c.args in
     let p = a.payload.now in
     let o = a.out.now in
-    let q = c.put_stuffed-text in
+    let q = c.put_stuffed-at in
     let at : q.result.at ≡ length (0x16 ∷ stuff p) = q.ensures.put.next ∙ zero-add (length (0x16 ∷ stuff p)) in
     let old : q.new.out ≡ over (0x16 ∷ stuff p) o = q.ensures.put.bytes ∙ pasted_start (0x16 ∷ stuff p) o in
     let sum : c.step.result ≡ check p = c.step.ensures ∙ ap (λ (r : ℕ). stepped r 0x17) q.ensures.met ∙ step_check p in

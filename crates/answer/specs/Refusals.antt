@@ -1,5 +1,5 @@
 -- The refusals of calls by number (scope paper, section Numbered refusals of calls).
-use Rattle.std.specs.Prelude.{ℕ, ◌≡◌, Result, Ok, Err}
+use Rattle.std.specs.Prelude.{ℕ, ◌≡◌, List, ◌++◌, codes, decimal, Result, Ok, Err}
 use Rattle.answer.specs.declared.refusal.Refusal.{Refusal}
 use Rattle.answer.specs.declared.refusal.Refusal.TheVariants.{NoRoom, WrongSize, Unsound, Empty, TooLong, NoPacket, WrongCheck, NoMessage, NoParameter, LongParameter, LongMessage, NotFound, NoTag, NoLength, CutValue, LongValue}
 
@@ -24,6 +24,10 @@ number_of LongValue = 33
 
 abbrev pub IsNumberOf : Refusal → ℕ → Type 0
 IsNumberOf refusal n = n ≡ number_of refusal
+
+-- a refusal as it is shown: its number, in decimal
+abbrev pub text_of : Refusal → List ℕ
+text_of refusal = codes "refusal " ++ decimal (number_of refusal)
 
 -- an answer by number: 0 where it is no refusal
 abbrev pub number_in : {A : Type 0} → Result A Refusal → ℕ

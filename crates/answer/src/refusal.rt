@@ -1,5 +1,6 @@
 // The refusals of calls, each with the number under which it is known outside (scope paper, section Numbered refusals of calls).
-ghost use Rattle.answer.specs.Refusals.{IsNumberOf};
+ghost use Rattle.std.specs.Prelude.{Some};
+ghost use Rattle.answer.specs.Refusals.{IsNumberOf, text_of};
 
 use std::error::Error;
 use std::fmt;
@@ -61,6 +62,8 @@ impl From<Refusal> for u8 {
 }
 
 impl fmt::Display for Refusal {
+    ghost output = { λ refusal. Some (text_of refusal) };
+
     fn fmt<W: fmt::Write>(&self, f: &mut fmt::Formatter<W>) -> fmt::Result {
         write!(f, "refusal {}", u8::from(*self))
     }

@@ -5,8 +5,8 @@ use Prim.Native.Nat.{ℕ, suc, ◌+◌, ◌≤◌, ◌<◌}
 use native.Mathlib.Omega.{arith}
 use native.Mathlib.Nat.{zero-add, add-zero}
 use native.Mathlib.Numerals.{add-one}
-use lib.ListN.{length, take, length-drop, set, length-append, take-append-drop}
-use lib.Seq.{length-take-le, take-append_seam, drop-append-add, drop-drop, sets-eq}
+use lib.ListN.{length, take, length-drop, get_or, set, length-append, take-append-drop}
+use lib.Seq.{length-take-le, take-append_seam, drop-append-add, drop-drop, sets-eq, paste, paste-suc}
 use Rattle.answer.specs.Answers.{over}
 use borrow.Author.Tests.{le-leb}
 use Rattle.answer.specs.Laid.{pasted, Puts, PutIf}
@@ -62,3 +62,7 @@ pasted_none l at = simp (append-nil, add-zero, take-append-drop)
 
 pub puts_long : (l s : List ℕ) (at r : ℕ) (out : List ℕ) → at + length s ≤ length l → Puts l at s r out → length out ≡ length l
 puts_long l s at r out h u = ap length u.bytes ∙ pasted_length l at s h
+
+-- a byte more of s stands at its place
+pub put_turn : (l o : List ℕ) (at i : ℕ) (s : List ℕ) → o ≡ paste l at s i → at + length s ≤ length l → i < length s → set o (at + i) (get_or s i 0) ≡ paste l at s (i + 1)
+put_turn l o at i s e h k = ap (λ (x : List ℕ). set x (at + i) (get_or s i 0)) e ∙ paste-suc l at s i 0 (omega arith) k ∙ ap (paste l at s) (sym (add-one i))

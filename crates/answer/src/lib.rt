@@ -5,9 +5,9 @@ pub mod digits;
 mod refusal;
 pub mod walk;
 
-ghost use Rattle.std.specs.Prelude.{◌≡◌};
+ghost use Rattle.std.specs.Prelude.{◌≡◌, ◌+◌, ◌≤◌, length};
 ghost use Rattle.answer.specs.Answers.{Gives};
-ghost use Rattle.answer.specs.Laid.{PutIf};
+ghost use Rattle.answer.specs.Laid.{Puts, PutIf};
 
 pub use refusal::Refusal;
 
@@ -18,8 +18,21 @@ pub fn give(s: &[u8], out: &mut [u8]) -> Result<usize, Refusal>
     if out.len() < s.len() {
         return Err(Refusal::NoRoom);
     }
-    out[..s.len()].copy_from_slice(s);
+    put_here(out, 0, s);
     Ok(s.len())
+}
+
+// Puts the bytes of `s` at `at`, where there is room for them. One by one, which the compiler makes as many at a time as it can: a copy of the whole
+// slice would be a call of memmove, which the library for C asks of no one.
+#[tactic(auto, using(crate::proofs::Laid::put_turn))]
+fn put_here(out: &mut [u8], at: usize, s: &[u8]) -> usize
+    requires { at + length s.now ≤ length out.old }
+    ensures { Puts out.old at s.now result out.new }
+{
+    for (i, &b) in s.iter().enumerate() {
+        out[at + i] = b;
+    }
+    at + s.len()
 }
 
 // Puts the bytes of `s` at `at` and tells the place after them. Where they do not fit nothing is put, and the place is `at`.
@@ -33,7 +46,5 @@ pub fn put(out: &mut [u8], at: usize, s: &[u8]) -> usize
     if out.len() - at < s.len() {
         return at;
     }
-    let end = at + s.len();
-    out[at..end].copy_from_slice(s);
-    end
+    put_here(out, at, s)
 }

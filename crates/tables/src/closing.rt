@@ -24,14 +24,18 @@ fn staying(bytes: &[u8], network: u8) -> Extent
     Extent { used, records }
 }
 
-// Moves the `len` bytes at `from` down to `to`.
-#[tactic(auto, using(crate::proofs::Moves::move_same))]
+// Moves the `len` bytes at `from` down to `to`. One by one, which the compiler makes as many at a time as it can: a copy of the whole part would be a
+// call of memmove, which the library for C asks of no one.
+#[tactic(auto, using(crate::proofs::Moves::move_same, crate::proofs::Moves::move_turn))]
 fn move_down(s: &mut [u8], to: usize, from: usize, len: usize)
     requires { (to ≤ from) × (from + len ≤ length s.old) }
     ensures { s.new ≡ moved s.old to from len }
 {
-    if to != from {
-        s.copy_within(from..from + len, to);
+    if to == from {
+        return;
+    }
+    for j in 0..len {
+        s[to + j] = s[from + j];
     }
 }
 

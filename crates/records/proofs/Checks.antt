@@ -142,3 +142,7 @@ module _ (block : List ℕ) where
       rw (rest_part block 2, every_any (recs (drop 2 block)), and_true (eqb (length (recs (drop 2 block))) n), d.1)
       (count_on (leb 2 (length block)) (is_digit (get_or block 0 0)) (is_digit (get_or block 1 0)) (leb 1 (two_digits_at block 0))
       (whole record_in (drop 2 block) && eqb (length (recs (drop 2 block))) (two_digits_at block 0)) (le-leb 2 (length block) h) d.0)
+
+  -- where the count is one that a block may have
+  pub block_one : 2 ≤ length block → (n : ℕ) → (let o : Option ℕ = Some n in o) ≡ two_in block → 1 ≤ n → records_good None n (take (length block - 2) (drop 2 block)) ≡ good_block block
+  block_one h n e k = ap (λ (b : Bool). b && records_good None n (take (length block - 2) (drop 2 block))) (sym (le-leb 1 n k)) ∙ block_is h n e

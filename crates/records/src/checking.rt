@@ -67,7 +67,7 @@ pub fn check_store(store: &[u8], used: usize, records: usize, network: u8) -> bo
 }
 
 // Whether `block`, a count and then records, is good as a whole.
-#[tactic(auto, using(crate::proofs::Checks::block_not, crate::proofs::Checks::block_is), unfolding(crate::specs::Record::good_block))]
+#[tactic(auto, using(crate::proofs::Checks::block_not, crate::proofs::Checks::block_is, crate::proofs::Checks::block_one), unfolding(crate::specs::Record::good_block))]
 pub fn block_good(block: &[u8]) -> bool
     ensures { result ≡ good_block block.now }
 {
@@ -77,5 +77,5 @@ pub fn block_good(block: &[u8]) -> bool
     let Some(count) = two_digits(block) else {
         return false;
     };
-    (1 <= count) & records_good(&block[2..], count as usize, None)
+    (1 <= count) && records_good(&block[2..], count as usize, None)
 }

@@ -1,18 +1,16 @@
 -- The laws of the first ETB and of what stands after it.
-use Rattle.std.proofs.Common.{◌≡◌, refl, ap, ◌∙◌, ℕ, suc, ◌+◌, ◌≤◌, Bool, true, false, cond, not, List, [], ◌∷◌, length, take, drop, arith, add-one}
-use lib.Dec.{eqb, ltb}
+use Rattle.std.proofs.Common.{◌≡◌, refl, ap, subst, ◌∙◌, ℕ, suc, ◌+◌, Bool, true, false, cond, not, List, [], ◌∷◌, length, take, drop, arith, add-one}
+use lib.Dec.{eqb}
 use lib.ListN.{get_or, drop_of_length-le}
 use lib.Seq.{drop-drop}
-use borrow.Author.Tests.{ltb-false}
-use Rattle.std.specs.Prelude.{Option, Some, None, Err, position}
+use Rattle.std.specs.Prelude.{Option, Some, None, Err}
 use Rattle.std.specs.List.{position_or_len}
+use Rattle.std.proofs.lemmas.Bool.{false_from_ne_true}
+use Rattle.std.proofs.lemmas.List.Sums.{position_or_len_is}
+use Rattle.memchr.specs.Find.{IsFirstByte, is_byte}
 use Rattle.answer.specs.declared.refusal.Refusal.TheVariants.{NoPacket}
 use Rattle.packet.specs.Substitution.{unstuff}
 use Rattle.packet.specs.Packet.{before, closed, judged, rest_of}
-
--- the first ETB, as `position` finds it
-abbrev pub etb_in : List ℕ → Option ℕ
-etb_in xs = position (λ b. eqb b 0x17) xs
 
 before_is : (xs : List ℕ) → before 0x17 xs ≡ position_or_len (λ b. eqb b 0x17) xs
 unfolding before
@@ -23,20 +21,15 @@ before_is (x ∷ xs) = cases (eqb x 0x17) (before_is xs)
     cases true h = refl
     cases false h = omega (arith, h)
 
-pub etb_some : (xs : List ℕ) (n : ℕ) → (let o : Option ℕ = Some n in o) ≡ etb_in xs → before 0x17 xs ≡ n
-etb_some xs n e = before_is xs ∙ cases (ltb (position_or_len (λ b. eqb b 0x17) xs) (length xs)) e
-  where
-    cases : (t : Bool) → (let o : Option ℕ = Some n in o) ≡ cond t (Some (position_or_len (λ b. eqb b 0x17) xs)) None → position_or_len (λ b. eqb b 0x17) xs ≡ n
-    cases true e = cc
-    cases false e = absurd cc
+-- the first ETB, as `memchr` finds it
+pub etb_some : (xs : List ℕ) (n : ℕ) → IsFirstByte (is_byte 0x17) xs (Some n) → before 0x17 xs ≡ n
+etb_some xs n h =
+    before_is xs ∙ position_or_len_is (λ b. eqb b 0x17) xs n 0 (omega (arith, h.0.high)) (λ k l. false_from_ne_true _ (h.0.before k (omega arith) l)) (λ l. h.1)
 
-pub etb_none : (xs : List ℕ) → (let o : Option ℕ = None in o) ≡ etb_in xs → length xs ≤ before 0x17 xs
-etb_none xs e = let h = cases (ltb (position_or_len (λ b. eqb b 0x17) xs) (length xs)) refl e in omega (arith, h, before_is xs)
-  where
-    cases : (t : Bool) → ltb (position_or_len (λ b. eqb b 0x17) xs) (length xs) ≡ t
-        → (let o : Option ℕ = None in o) ≡ cond t (Some (position_or_len (λ b. eqb b 0x17) xs)) None → length xs ≤ position_or_len (λ b. eqb b 0x17) xs
-    cases true f e = absurd cc
-    cases false f e = ltb-false (position_or_len (λ b. eqb b 0x17) xs) (length xs) f
+pub etb_none : (xs : List ℕ) → IsFirstByte (is_byte 0x17) xs None → before 0x17 xs ≡ length xs
+etb_none xs h =
+    before_is xs
+    ∙ position_or_len_is (λ b. eqb b 0x17) xs (length xs) 0 (omega arith) (λ k l. false_from_ne_true _ (h k (omega arith) l)) (λ l. absurd (omega (arith, l)))
 
 -- ---- ETB and what stands after it, `tail`
 
@@ -54,18 +47,18 @@ closed_not body (x ∷ a ∷ []) h = refl
 closed_not body (x ∷ a ∷ b ∷ []) h = absurd (h refl)
 closed_not body (x ∷ a ∷ b ∷ y ∷ ys) h = refl
 
-module _ (xs : List ℕ) where
-  pub rest_none : (let o : Option ℕ = None in o) ≡ etb_in xs → rest_of xs ≡ Err NoPacket
+module _ (xs : List ℕ) (r : Option ℕ) (f : IsFirstByte (is_byte 0x17) xs r) where
+  pub rest_none : r ≡ None → rest_of xs ≡ Err NoPacket
   rest_none e =
-      let h = etb_none xs e in
-      ap (closed (take (before 0x17 xs) xs)) (drop_of_length-le xs {i = suc (before 0x17 xs)} (omega arith))
+      let h = etb_none xs (subst (IsFirstByte (is_byte 0x17) xs) e f) in
+      ap (closed (take (before 0x17 xs) xs)) (drop_of_length-le xs {i = suc (before 0x17 xs)} (omega (arith, h)))
 
-  module _ (n : ℕ) (e : (let o : Option ℕ = Some n in o) ≡ etb_in xs) where
-    by_tail : rest_of xs ≡ closed (take n xs) (drop 1 (drop n xs))
-    by_tail = rw (etb_some xs n e, drop-drop 1 n xs, add-one) refl
+  module _ (n : ℕ) (e : r ≡ Some n) (tail : List ℕ) (k : tail ≡ drop n xs) where
+    by_tail : rest_of xs ≡ closed (take n xs) (drop 1 tail)
+    by_tail = rw (k, etb_some xs n (subst (IsFirstByte (is_byte 0x17) xs) e f), drop-drop 1 n xs, add-one) refl
 
-    pub rest_is : length (drop n xs) ≡ 3 → rest_of xs ≡ judged (unstuff (take n xs)) (get_or (drop n xs) 1 0) (get_or (drop n xs) 2 0)
-    rest_is h = by_tail ∙ closed_three (take n xs) (drop n xs) h
+    pub rest_is : (body : List ℕ) → body ≡ take n xs → length tail ≡ 3 → rest_of xs ≡ judged (unstuff body) (get_or tail 1 0) (get_or tail 2 0)
+    rest_is body h l = rw (h) (by_tail ∙ closed_three (take n xs) tail l)
 
-    pub rest_not : (length (drop n xs) ≡ 3 → ⊥) → rest_of xs ≡ Err NoPacket
-    rest_not h = by_tail ∙ closed_not (take n xs) (drop n xs) h
+    pub rest_not : (length tail ≡ 3 → ⊥) → rest_of xs ≡ Err NoPacket
+    rest_not l = by_tail ∙ closed_not (take n xs) tail l

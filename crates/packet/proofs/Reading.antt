@@ -1,5 +1,5 @@
 -- The laws of a body's symbols: what they come to one after another, and that this is what the body is sent for.
-use Rattle.std.proofs.Common.{◌≡◌, refl, sym, ap, ap₂, ◌∙◌, ℕ, ◌+◌, ◌-◌, ◌≤◌, ◌<◌, Bool, true, false, cond, ◌||◌, List, [], ◌∷◌, ◌++◌, length, arith, Option, Some, None}
+use Rattle.std.proofs.Common.{◌≡◌, refl, sym, ap, ap₂, subst, ◌∙◌, ℕ, ◌+◌, ◌-◌, ◌≤◌, ◌<◌, Bool, true, false, cond, ◌||◌, List, [], ◌∷◌, ◌++◌, length, arith, Option, Some, None}
 use mathlib.Core.Bool.{true≢false}
 use mathlib.Core.List.{append-nil}
 use lib.Dec.{eqb}
@@ -108,6 +108,7 @@ module _ (xs left : List ℕ) (n register : ℕ) (i : body_from 0 0 (symbols xs)
 pub record Undoes (whole : List (Option ℕ)) (before out : List ℕ) (n : ℕ) (left : List (Option ℕ)) : Type 0 where
   pub is : given left ≡ Some (payload_in (given left))
   pub fits : n + length (payload_in (given left)) ≤ length out
+  pub counts : n + length (payload_in (given left)) ≡ length (payload_in (given whole))
   pub bytes : over (payload_in (given whole)) before ≡ pasted out n (payload_in (given left))
 
 pub undoes_none : (xs out : List ℕ) → Room (unstuff xs) out → Undoes (symbols xs) out out 0 (symbols xs)
@@ -117,37 +118,48 @@ undoes_none xs out r =
     record {
       is = sym e ∙ r.is ∙ ap (λ (u : Option (List ℕ)). Some (payload_in u)) e;
       fits = omega (arith, h);
+      counts = omega arith;
       bytes = sym (pasted_start (payload_in (given (symbols xs))) out);
     }
 
 module _ (whole : List (Option ℕ)) (before out : List ℕ) (n : ℕ) where
-  pub undoes_all : Undoes whole before out n [] → out ≡ over (payload_in (given whole)) before
-  undoes_all u = sym (u.bytes ∙ pasted_none out n)
+  -- all payload bytes are laid
+  pub undoes_end : (left : List ℕ) → length (payload_in (given whole)) ≤ n → Undoes whole before out n (symbols left)
+      → out ≡ over (payload_in (given whole)) before
+  undoes_end left h u = sym (u.bytes ∙ ap (pasted out n) (none (payload_in (given (symbols left))) (omega (arith, h, u.counts))) ∙ pasted_none out n)
+    where
+      none : (p : List ℕ) → length p ≡ 0 → p ≡ []
+      none [] e = refl
+      none (x ∷ xs) e = absurd (omega (arith, e))
 
-  pub undoes_end : (left : List ℕ) → length left ≡ 0 → Undoes whole before out n (symbols left) → out ≡ over (payload_in (given whole)) before
+  -- where not all are, some bytes of the body are left
+  pub undoes_some : (left : List ℕ) → n < length (payload_in (given whole)) → Undoes whole before out n (symbols left) → 1 ≤ length left
   unfolding symbols
-  undoes_end [] h u = undoes_all u
-  undoes_end (x ∷ xs) h u = absurd (omega arith)
+  undoes_some [] h u = absurd (omega (arith, h, u.counts))
+  undoes_some (x ∷ xs) h u = omega arith
 
   -- the symbol at hand is one, since the body is sent for a payload
   pub undoes_not : (l : List (Option ℕ)) → Undoes whole before out n (None ∷ l) → ⊥
   undoes_not l u = absurd (let e : (let o : Option (List ℕ) = None in o) ≡ Some [] = u.is in cc)
 
   undoes_more : (b : ℕ) (l : List (Option ℕ)) → Undoes whole before out n (Some b ∷ l) → (n < length out) × Undoes whole before (set out n b) (n + 1) l
-  undoes_more b l u = cases (given l) refl u.is u.fits u.bytes
+  undoes_more b l u = cases (given l) refl u.is u.fits u.counts u.bytes
     where
       cases : (v : Option (List ℕ)) → given l ≡ v → and_then b v ≡ Some (payload_in (and_then b v)) → n + length (payload_in (and_then b v)) ≤ length out
-          → over (payload_in (given whole)) before ≡ pasted out n (payload_in (and_then b v)) → (n < length out) × Undoes whole before (set out n b) (n + 1) l
-      cases None e i f g = absurd (let z : (let o : Option (List ℕ) = None in o) ≡ Some [] = i in cc)
-      cases (Some q) e i f g =
+          → n + length (payload_in (and_then b v)) ≡ length (payload_in (given whole)) → over (payload_in (given whole)) before ≡ pasted out n (payload_in (and_then b v))
+          → (n < length out) × Undoes whole before (set out n b) (n + 1) l
+      cases None e i f c g = absurd (let z : (let o : Option (List ℕ) = None in o) ≡ Some [] = i in cc)
+      cases (Some q) e i f c g =
           let p : given l ≡ Some (payload_in (given l)) = e ∙ ap (λ (u : Option (List ℕ)). Some (payload_in u)) (sym e) in
           let j : set out n b ≡ pasted out n (b ∷ []) = set_one out n b (omega arith) in
           let k : pasted (set out n b) (n + 1) q ≡ pasted out n (b ∷ q) = ap (λ (o : List ℕ). pasted o (n + 1) q) j ∙ pasted_join out n (b ∷ []) q (omega arith) in
-          let m : (n + 1) + length q ≤ length (set out n b) = rw (length-set) (omega arith) in (
+          let m : (n + 1) + length q ≤ length (set out n b) = rw (length-set) (omega arith) in
+          let d : (n + 1) + length q ≡ length (payload_in (given whole)) = omega (arith, c) in (
             omega arith,
             record {
               is = p;
               fits = rw (e) m;
+              counts = rw (e) d;
               bytes = rw (e) (g ∙ sym k);
             },
           )
@@ -157,25 +169,25 @@ module _ (whole : List (Option ℕ)) (before out : List ℕ) (n : ℕ) where
   plain_more x l false u = undoes_more x l u
 
   -- a pair, by its second byte
-  pub record Paired (xs : List ℕ) : Type 0 where
-    pub long : 1 ≤ length xs
-    pub above : 0x20 ≤ get_or xs 0 0
+  pub record Paired (left : List ℕ) : Type 0 where
+    pub long : 2 ≤ length left
+    pub above : 0x20 ≤ get_or left 1 0
     pub room : n < length out
-    pub more : Undoes whole before (set out n (get_or xs 0 0 - 0x20)) (n + 1) (symbols (drop 1 xs))
+    pub more : Undoes whole before (set out n (get_or left 1 0 - 0x20)) (n + 1) (symbols (drop 2 left))
 
-  pub undoes_pair : (xs : List ℕ) → Undoes whole before out n (symbols (0x13 ∷ xs)) → Paired xs
+  pub undoes_pair : (xs : List ℕ) → Undoes whole before out n (symbols (0x13 ∷ xs)) → Paired (0x13 ∷ xs)
   unfolding symbols plain_of pair_of
   undoes_pair [] u = absurd (undoes_not [] u)
   undoes_pair (y ∷ ys) u = cases (eqb y 0x33) (eqb y 0x36) (eqb y 0x37) refl refl refl u
     where
-      is : (k b : ℕ) → eqb y k ≡ true → k - 0x20 ≡ b → 0x20 ≤ k → Undoes whole before out n (Some b ∷ symbols ys) → Paired (y ∷ ys)
+      is : (k b : ℕ) → eqb y k ≡ true → k - 0x20 ≡ b → 0x20 ≤ k → Undoes whole before out n (Some b ∷ symbols ys) → Paired (0x13 ∷ y ∷ ys)
       is k b e f h u =
           let s : y ≡ k = eqb-true y k e in
           let g : y - 0x20 ≡ b = ap (λ (n : ℕ). n - 0x20) s ∙ f in
           let (r, m) = undoes_more b (symbols ys) u in
           record { long = omega arith; above = omega arith; room = r; more = rw (g) m }
 
-      cases : (a b c : Bool) → eqb y 0x33 ≡ a → eqb y 0x36 ≡ b → eqb y 0x37 ≡ c → Undoes whole before out n (pair_by a b c ∷ symbols ys) → Paired (y ∷ ys)
+      cases : (a b c : Bool) → eqb y 0x33 ≡ a → eqb y 0x36 ≡ b → eqb y 0x37 ≡ c → Undoes whole before out n (pair_by a b c ∷ symbols ys) → Paired (0x13 ∷ y ∷ ys)
       cases true b c e f g u = is 0x33 0x13 e refl (omega arith) u
       cases false true c e f g u = is 0x36 0x16 f refl (omega arith) u
       cases false false true e f g u = is 0x37 0x17 g refl (omega arith) u
@@ -195,9 +207,14 @@ module _ (whole : List (Option ℕ)) (before out : List ℕ) (n : ℕ) where
       others true e t m l u = absurd (true≢false e)
       others false e t m l u = plain_more x l t u
 
-  module _ (left : List ℕ) (x : ℕ) (xs : List ℕ) (e : left ≡ x ∷ xs) (u : Undoes whole before out n (symbols left)) where
-    pub pair_here : x ≡ 0x13 → Paired xs
-    pair_here h = undoes_pair xs (rw (← h, ← e) u)
+  module _ (h : n < length (payload_in (given whole))) where
+    pub pair_here : (left : List ℕ) → Undoes whole before out n (symbols left) → get_or left 0 0 ≡ 0x13 → Paired left
+    pair_here [] u e = absurd (omega (arith, e))
+    pair_here (x ∷ xs) u e =
+        let f = ap (λ (y : ℕ). y ∷ xs) e in
+        subst Paired (sym f) (undoes_pair xs (subst (λ (l : List ℕ). Undoes whole before out n (symbols l)) f u))
 
-    pub plain_here : (x ≡ 0x13 → ⊥) → (n < length out) × Undoes whole before (set out n x) (n + 1) (symbols xs)
-    plain_here h = undoes_plain x xs h (rw (← e) u)
+    pub plain_here : (left : List ℕ) → Undoes whole before out n (symbols left) → (get_or left 0 0 ≡ 0x13 → ⊥)
+        → (n < length out) × Undoes whole before (set out n (get_or left 0 0)) (n + 1) (symbols (drop 1 left))
+    plain_here [] u z = absurd (omega (arith, undoes_some [] h u))
+    plain_here (x ∷ xs) u z = undoes_plain x xs z u

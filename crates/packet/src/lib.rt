@@ -9,6 +9,7 @@ ghost use Rattle.packet.specs.Packet.{packet_of, write_packet, before, judged, r
 ghost use Rattle.packet.specs.Steps.{pair_of, symbols, payload_in, body_of, Room, Stuffs};
 
 use answer::Refusal;
+use memchr::memchr;
 
 // Where the next byte of a packet goes, and the check's register after the payload.
 #[derive(Drop)]
@@ -189,24 +190,24 @@ fn judge(body: &[u8]) -> Option<Body>
     Some(Body { count, register })
 }
 
-// Undoes the substitutions of a body that was judged: the second byte of each pair is 20h over the payload byte.
-// By `Symbols`, which judges once more, a packet takes a sixth more time to read; and the place in `out` is a number, since a byte stands for one
-// byte or two.
-fn undo(body: &[u8], out: &mut [u8])
-    requires { Room (unstuff body.now) out.old }
+// Undoes the substitutions of a body that was judged and stands for `count` bytes: the second byte of each pair is 20h over the payload byte.
+// By `Symbols`, which judges once more, a packet takes a sixth more time to read; and by `count`, so that one number tells the place in `out` and
+// the end, two bytes are undone at a time.
+fn undo(body: &[u8], count: usize, out: &mut [u8])
+    requires room { Room (unstuff body.now) out.old }
+    requires counted { count ≡ length (payload_in (unstuff body.now)) }
     ensures { out.new ≡ over (payload_in (unstuff body.now)) out.old }
 {
     let mut left = body;
-    let mut n = 0;
-    while let Some((&x, rest)) = left.split_first() {
+    for n in 0..count {
+        let x = left[0];
         if x == 0x13 {
-            out[n] = rest[0] - 0x20;
-            left = &rest[1..];
+            out[n] = left[1] - 0x20;
+            left = &left[2..];
         } else {
             out[n] = x;
-            left = rest;
+            left = &left[1..];
         }
-        n += 1;
     }
 }
 
@@ -228,15 +229,16 @@ fn read_body(body: &[u8], a: u8, b: u8, out: &mut [u8]) -> Result<usize, Refusal
     if out.len() < count {
         return Err(Refusal::NoRoom);
     }
-    undo(body, out);
+    undo(body, count, out);
     Ok(count)
 }
 
 // Gives the payload of what follows SYN.
+#[tactic(auto, using(answer::proofs::Laws::gives_refused, answer::proofs::Laws::gives_as, crate::proofs::Closing::rest_is, crate::proofs::Closing::rest_not))]
 fn read_rest(rest: &[u8], out: &mut [u8]) -> Result<usize, Refusal>
     ensures { Gives (rest_of rest.now) out.old result out.new }
 {
-    let Some(n) = rest.iter().position(|&b| b == 0x17) else {
+    let Some(n) = memchr(0x17, rest) else {
         return Err(Refusal::NoPacket);
     };
     match rest.split_at(n) {

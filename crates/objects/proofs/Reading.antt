@@ -18,7 +18,7 @@ use Rattle.objects.specs.LengthForm.{form_at, size_in, value_in}
 use Rattle.objects.specs.Object.{header_size, value_size, object_refusal, object_size, read_of}
 use Rattle.objects.specs.Within.{tag_within}
 use Rattle.objects.proofs.LengthForms.{form_le}
-use Rattle.objects.proofs.Objects.{Sound, sound_refusal, read_good, read_bad, size_good, size_bad, size_some}
+use Rattle.objects.proofs.Objects.{Sound, sound_parts, sound_refusal, read_good, read_bad, size_good, size_bad, size_some}
 
 -- ---- the steps of the code
 
@@ -79,6 +79,12 @@ module _ (xs : List ℕ) where
 
 -- ---- an object that was read
 
+-- the tag stands within the header, the header within the object, and the object within the bytes
+pub record Nested (xs : List ℕ) (r : ObjectRead) : Type 0 where
+  pub tag : r.tag ≤ r.header
+  pub header : r.header ≤ r.whole
+  pub whole : r.whole ≤ length xs
+
 module _ (xs : List ℕ) (r : ObjectRead) (e : (let a : Result ObjectRead Refusal = Ok r in a) ≡ read_of xs) where
   pub read_right : object_refusal xs ≡ None
   read_right = cases (object_refusal xs) refl
@@ -89,6 +95,15 @@ module _ (xs : List ℕ) (r : ObjectRead) (e : (let a : Result ObjectRead Refusa
 
   pub read_is : r ≡ record { tag = tag_size xs; header = header_size xs; whole = header_size xs + value_size xs }
   read_is = let i = e ∙ read_good xs read_right in cc
+
+  pub read_nested : Nested xs r
+  read_nested =
+      let i = read_is in
+      let t : r.tag ≡ tag_size xs = ap (λ (x : ObjectRead). x.tag) i in
+      let h : r.header ≡ header_size xs = ap (λ (x : ObjectRead). x.header) i in
+      let w : r.whole ≡ header_size xs + value_size xs = ap (λ (x : ObjectRead). x.whole) i in
+      let f = (sound_parts xs read_right).fits in
+      record { tag = omega arith; header = omega arith; whole = omega arith }
 
   pub read_whole : r.whole ≡ object_size xs
   read_whole = ap (λ (x : ObjectRead). x.whole) read_is ∙ sym (size_good xs read_right)

@@ -36,23 +36,23 @@ module _ (tag value : List ℕ) where
   unfolding write_object
   write_good e h = simp (e, le-leb (length value) 65535 h)
 
-  -- tag, length form and value
-  pub puts_object : (out : List ℕ) (p : ℕ) (o₁ : List ℕ) (q : ℕ) (o₂ : List ℕ) (r : ℕ) (o₃ : List ℕ) → length (object_of tag value) ≤ length out
-      → PutIf out 0 tag p o₁ → PutIf o₁ p (form_of (length value)) q o₂ → PutIf o₂ q value r o₃ → Puts out 0 (object_of tag value) r o₃
+  -- tag, length form and value, at any place with room for them
+  pub puts_object : (out : List ℕ) (at p : ℕ) (o₁ : List ℕ) (q : ℕ) (o₂ : List ℕ) (r : ℕ) (o₃ : List ℕ) → at + length (object_of tag value) ≤ length out
+      → PutIf out at tag p o₁ → PutIf o₁ p (form_of (length value)) q o₂ → PutIf o₂ q value r o₃ → Puts out at (object_of tag value) r o₃
   unfolding object_of
-  puts_object out p o₁ q o₂ r o₃ fits a b c =
+  puts_object out at p o₁ q o₂ r o₃ fits a b c =
       let l = object_length tag value in
       let n = length-append tag (form_of (length value)) in
-      let first = put_fits out 0 tag p o₁ (omega arith) a in
-      let two = puts_join out 0 tag (form_of (length value)) p o₁ q o₂ (omega arith) first b in
-      let three = puts_join out 0 (tag ++ form_of (length value)) value q o₂ r o₃ (omega arith) two c in
+      let first = put_fits out at tag p o₁ (omega arith) a in
+      let two = puts_join out at tag (form_of (length value)) p o₁ q o₂ (omega arith) first b in
+      let three = puts_join out at (tag ++ form_of (length value)) value q o₂ r o₃ (omega arith) two c in
       rw append_assoc at three
 
   pub writes_object : (out : List ℕ) (p : ℕ) (o₁ : List ℕ) (q : ℕ) (o₂ : List ℕ) (r : ℕ) (o₃ : List ℕ)
       → is_tag tag ≡ true → length value ≤ 65535 → length (object_of tag value) ≤ length out
       → PutIf out 0 tag p o₁ → PutIf o₁ p (form_of (length value)) q o₂ → PutIf o₂ q value r o₃ → Gives (write_object tag value) out (Ok r) o₃
   writes_object out p o₁ q o₂ r o₃ t v fits a b c =
-      let u = puts_object out p o₁ q o₂ r o₃ fits a b c in
+      let u = puts_object out 0 p o₁ q o₂ r o₃ (omega arith) a b c in
       let n = u.next in
       let e : r ≡ length (object_of tag value) = omega arith in
       gives_as out o₃ (Ok r) (write_good t v) (gives_good (object_of tag value) out o₃ (Ok r) fits (ap Ok e) (u.bytes ∙ pasted_start (object_of tag value) out))

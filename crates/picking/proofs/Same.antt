@@ -1,25 +1,25 @@
 -- Equal bytes: what the test says, and an object whose tag is sought.
 use mathlib.Core.Path.{◌≡◌, refl, sym, ap, ◌∙◌}
-use mathlib.Core.Bool.{Bool, true, false, cond, false≢true, true≢false}
+use mathlib.Core.Bool.{Bool, true, false, cond, ◌&&◌, false≢true, true≢false}
 use mathlib.Core.List.{List, [], ◌∷◌, ◌++◌}
-use Prim.Native.Nat.{ℕ, ◌≤◌}
+use Prim.Native.Nat.{ℕ, suc, ◌≤◌, ◌<◌}
 use native.Mathlib.Omega.{arith}
-use lib.ListN.{length, take, drop, take-append-drop}
+use lib.ListN.{length, take, drop, get_or, take-append-drop, length-take}
 use lib.Seq.{length-take-le}
-use lib.Dec.{eqb}
+use lib.Dec.{eqb, ltb}
 use borrow.Author.Tests.{eq-eqb, eqb-true}
 use Rattle.std.proofs.Common.{Bor}
-use Rattle.std.proofs.lemmas.Slice.Eq.{slice_eq-Decides}
-use Rattle.std.proofs.lemmas.Bool.Decides.{Decides-eqb}
-use Rattle.std.specs.Bool.{Decides}
-use Rattle.std.specs.List.{starts_with, find}
+use Rattle.std.specs.List.{find}
 use Rattle.std.specs.Option.{option_map, unwrap_or}
-use Rattle.std.specs.Prelude.{Option, Some, None}
-use Rattle.answer.proofs.Parts.{and_left, and_right, and_false}
-use Rattle.objects.specs.Tag.{tag_size, is_tag}
-use Rattle.objects.specs.Object.{object_in}
+use Rattle.std.specs.Prelude.{Option, Some, None, Result, Ok}
+use Rattle.answer.specs.declared.refusal.Refusal.{Refusal}
+use Rattle.answer.proofs.Parts.{and_left, and_right, and_true, and_false}
+use Rattle.objects.specs.Tag.{bad_first, calls_for_more, size_of_two, tag_size, is_tag}
+use Rattle.objects.specs.declared.ObjectRead.{ObjectRead}
+use Rattle.objects.specs.Object.{object_in, read_of}
 use Rattle.objects.specs.Within.{tag_within}
 use Rattle.objects.proofs.TagSizes.{tag_append}
+use Rattle.objects.proofs.Reading.{read_is}
 use Rattle.objects.proofs.RoundTrip.{tag_fit}
 use Rattle.picking.specs.Pick.{same, is_withheld}
 use Rattle.picking.specs.Claims.{first_piece}
@@ -58,6 +58,82 @@ module _ (t p : List ℕ) where
       let n : tag_size p ≡ length t = sym (length-take-le (tag_size p) p (tag_within p)) ∙ ap length h in
       ap (λ (k : ℕ). take k p) (sym n) ∙ h
 
+-- ---- an object has the tag that it starts with, by the tests of the code
+
+pub same_length : (xs ys : List ℕ) → (length xs ≡ length ys → ⊥) → same xs ys ≡ false
+unfolding same
+same_length [] [] h = absurd (h refl)
+same_length [] (y ∷ ys) h = refl
+same_length (x ∷ xs) [] h = refl
+same_length (x ∷ xs) (y ∷ ys) h = simp (same_length xs ys (λ e. h (ap suc e)), and_false (eqb x y))
+
+start_one : (t p : List ℕ) → length t ≡ 1 → 1 ≤ length p → same t (take (length t) p) ≡ eqb (get_or t 0 0) (get_or p 0 0)
+unfolding same
+start_one (a ∷ []) (b ∷ p) h k = and_true (eqb a b)
+start_one [] p h k = absurd (omega arith)
+start_one (a ∷ []) [] h k = absurd (omega arith)
+start_one (a ∷ d ∷ t) p h k = absurd (omega arith)
+
+start_two : (t p : List ℕ) → length t ≡ 2 → 2 ≤ length p → same t (take (length t) p) ≡ (eqb (get_or t 0 0) (get_or p 0 0) && eqb (get_or t 1 0) (get_or p 1 0))
+unfolding same
+start_two (a ∷ c ∷ []) (b ∷ d ∷ p) h k = ap (λ (e : Bool). eqb a b && e) (and_true (eqb c d))
+start_two [] p h k = absurd (omega arith)
+start_two (a ∷ []) p h k = absurd (omega arith)
+start_two (a ∷ c ∷ []) [] h k = absurd (omega arith)
+start_two (a ∷ c ∷ []) (b ∷ []) h k = absurd (omega arith)
+start_two (a ∷ c ∷ e ∷ t) p h k = absurd (omega arith)
+
+tag_short : (xs : List ℕ) → tag_size xs ≤ 2
+unfolding tag_size size_of_two
+tag_short [] = omega arith
+tag_short (a ∷ xs) = first (bad_first a) (calls_for_more a) xs
+  where
+    second : (u : Bool) → cond u 2 0 ≤ 2
+    second true = omega arith
+    second false = omega arith
+
+    first : (s t : Bool) (ys : List ℕ) → cond s 0 (cond t (size_of_two ys) 1) ≤ 2
+    first true t ys = omega arith
+    first false false ys = omega arith
+    first false true [] = omega arith
+    first false true (b ∷ ys) = second (ltb b 0x80)
+
+-- a tag has one byte or two
+pub one_or_two : (t : List ℕ) → is_tag t ≡ true → (1 ≤ length t) × (length t ≤ 2)
+one_or_two t e =
+    let f = tag_fit t e in
+    let i = f.0 in
+    let m = tag_short t in
+    let n : length t ≡ 0 → ⊥ = λ z. f.1 (i ∙ z) in
+    (omega arith, omega arith)
+
+module _ (t p : List ℕ) (e : is_tag t ≡ true) where
+  pub has_start : same t (object_in p).tag ≡ same t (take (length t) p)
+  has_start = cases (same t (object_in p).tag) (same t (take (length t) p)) refl refl
+    where
+      cases : (a b : Bool) → same t (object_in p).tag ≡ a → same t (take (length t) p) ≡ b → a ≡ b
+      cases true true h k = refl
+      cases false false h k = refl
+      cases true false h k = absurd (true≢false (sym (ap (same t) (same_starts t p (sym (same_true t (object_in p).tag h))) ∙ same_refl t) ∙ k))
+      cases false true h k = absurd (false≢true (sym h ∙ ap (same t) (starts_same t p e (sym (same_true t (take (length t) p) k))) ∙ same_refl t))
+
+  pub has_one : length t ≡ 1 → 1 ≤ length p → same t (object_in p).tag ≡ eqb (get_or t 0 0) (get_or p 0 0)
+  has_one h k = has_start ∙ start_one t p h k
+
+  pub has_two : length t ≡ 2 → 2 ≤ length p → same t (object_in p).tag ≡ (eqb (get_or t 0 0) (get_or p 0 0) && eqb (get_or t 1 0) (get_or p 1 0))
+  has_two h k = has_start ∙ start_two t p h k
+
+  pub has_not : length p < length t → same t (object_in p).tag ≡ false
+  has_not h = has_start ∙ same_length t (take (length t) p) (λ l. let m = length-take (length t) p in omega arith)
+
+-- an object that was read with a tag of another size has another tag
+pub has_other : (t p : List ℕ) (r : ObjectRead) → (let a : Result ObjectRead Refusal = Ok r in a) ≡ read_of p → (r.tag ≡ length t → ⊥) → same t (object_in p).tag ≡ false
+unfolding object_in
+has_other t p r e h =
+    let i : r.tag ≡ tag_size p = ap (λ (x : ObjectRead). x.tag) (read_is p r e) in
+    let l = length-take-le (tag_size p) p (tag_within p) in
+    same_length t (take (tag_size p) p) (λ m. h (omega arith))
+
 -- ---- what is shown for a tag
 
 pub shown_none : (t : List ℕ) (ps : List (List ℕ)) → is_withheld t ≡ true → first_piece t ps ≡ []
@@ -80,32 +156,13 @@ pub now_or : (r : Option (Bor (List ℕ))) (d : Bor (List ℕ)) → d.now ≡ []
 now_or None d e = e
 now_or (Some x) d e = refl
 
--- the first object that starts with a tag that is not withheld
-module _ (t : List ℕ) (e : is_tag t ≡ true) (w : is_withheld t ≡ false) where
-  abbrev starts : List ℕ → Bool
-  starts p = starts_with eqb p t
-
-  starts_as : (p : List ℕ) → Decides (starts p) (t ≡ take (length t) p)
-  starts_as p = slice_eq-Decides Decides-eqb t (take (length t) p) (starts p) refl
-
-  starts_is : (p : List ℕ) → starts p ≡ true → (object_in p).tag ≡ t
-  starts_is p h = starts_same t p e (sym ((starts_as p).0 h))
-
-  test_same : (p : List ℕ) → same t (object_in p).tag ≡ starts p
-  test_same p = cases (starts p) (same t (object_in p).tag) refl refl
-    where
-      cases : (a b : Bool) → starts p ≡ a → same t (object_in p).tag ≡ b → b ≡ a
-      cases true true h k = refl
-      cases false false h k = refl
-      cases true false h k = absurd (true≢false (sym (ap (same t) (starts_is p h) ∙ same_refl t) ∙ k))
-      cases false true h k = absurd (false≢true (sym h ∙ (starts_as p).1 (sym (same_starts t p (sym (same_true t (object_in p).tag k))))))
-
-  pub shown_first : (ps : List (List ℕ)) → unwrap_or (find starts ps) [] ≡ first_piece t ps
-  unfolding first_piece
-  shown_first [] = refl
-  shown_first (p ∷ ps) = cases (starts p) refl (shown_first ps)
-    where
-      cases : (b : Bool) → starts p ≡ b → unwrap_or (find starts ps) [] ≡ first_piece t ps
-          → unwrap_or (cond b (Some p) (find starts ps)) [] ≡ cond (same t (object_in p).tag) (cond (is_withheld (object_in p).tag) [] p) (first_piece t ps)
-      cases false h ih = ih ∙ sym (simp (test_same p ∙ h))
-      cases true h ih = let n = ap is_withheld (starts_is p h) ∙ w in sym (simp (test_same p ∙ h, n))
+-- the first object with a tag that is not withheld
+pub shown_first : (t : List ℕ) → is_withheld t ≡ false → (ps : List (List ℕ)) → unwrap_or (find (λ p. same t (object_in p).tag) ps) [] ≡ first_piece t ps
+unfolding first_piece
+shown_first t w [] = refl
+shown_first t w (p ∷ ps) = cases (same t (object_in p).tag) refl (shown_first t w ps)
+  where
+    cases : (b : Bool) → same t (object_in p).tag ≡ b → unwrap_or (find (λ q. same t (object_in q).tag) ps) [] ≡ first_piece t ps
+        → unwrap_or (cond b (Some p) (find (λ q. same t (object_in q).tag) ps)) [] ≡ cond b (cond (is_withheld (object_in p).tag) [] p) (first_piece t ps)
+    cases false h ih = ih
+    cases true h ih = let n = ap is_withheld (sym (same_true t (object_in p).tag h)) ∙ w in sym (simp n)

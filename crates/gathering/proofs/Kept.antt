@@ -110,6 +110,10 @@ module _ (resend : Bool) (line : Line) (store : List ℕ) (n : ℕ) (piece : Lis
   pub gathered_within : line.count ≤ 2048 → (gathered resend line store n piece).line.count ≤ 2048
   gathered_within h = within resend piece line store n h
 
+  -- the store keeps its length
+  pub gathered_long : length (gathered resend line store n piece).store ≡ length store
+  gathered_long = long resend piece line store n
+
   -- the byte that gathering ends with is one that is answered
   pub gathered_asks : (gathered resend line store n piece).asked ≡ true
       → asks_in (gathered resend line store n piece).line.state resend (gathered resend line store n piece).last ≡ true

@@ -258,6 +258,16 @@ found_three n =
     let e : 3 + n ≡ suc (suc (suc n)) = omega arith in
     ap found e ∙ ap (λ (k : ℕ). let o : Option ℕ = Some k in o) (sym e)
 
+-- what the digits tell, as the code tests it
+pub digits_low : (s : List ℕ) (n : ℕ) → (let o : Option ℕ = Some n in o) ≡ three_in s → n ≤ 999
+digits_low s n e = (digits_some s n e).0
+
+pub block_then : (s : List ℕ) (n : ℕ) → (let o : Option ℕ = Some n in o) ≡ three_in s → (leb 1 n && leb (3 + n) (length s)) ≡ true → (let o : Option ℕ = Some (3 + n) in o) ≡ found (block_in s)
+block_then s n e h = sym (ap found ((digits_some s n e).1 ∙ ap (λ (t : Bool). cond t (3 + n) 0) h) ∙ found_three n)
+
+pub block_else : (s : List ℕ) (n : ℕ) → (let o : Option ℕ = Some n in o) ≡ three_in s → (leb 1 n && leb (3 + n) (length s)) ≡ false → (let o : Option ℕ = None in o) ≡ found (block_in s)
+block_else s n e h = sym (ap found ((digits_some s n e).1 ∙ ap (λ (t : Bool). cond t (3 + n) 0) h))
+
 pub digits_none : (s : List ℕ) → (let o : Option ℕ = None in o) ≡ three_in s → block_in s ≡ 0
 unfolding three_in block_in
 digits_none s = cases (is_digit (get_or s 0 0)) (is_digit (get_or s 1 0)) (is_digit (get_or s 2 0)) (leb 3 (length s))

@@ -17,7 +17,7 @@ pub(crate) struct Block;
 impl Piece for Block {
     ghost size = { block_in };
 
-    #[tactic(auto, using(crate::proofs::Blocks::digits_some, crate::proofs::Blocks::digits_none), unfolding(crate::specs::Blocks::block_in))]
+    #[tactic(auto, using(crate::proofs::Blocks::digits_low, crate::proofs::Blocks::block_then, crate::proofs::Blocks::block_else, crate::proofs::Blocks::digits_none))]
     fn size_in(s: &[u8]) -> Option<usize> {
         let held = three_digits(s)?;
         let n = 3 + held;

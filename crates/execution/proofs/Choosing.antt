@@ -3,7 +3,7 @@ use mathlib.Core.Path.{◌≡◌, refl, sym, ap, ◌∙◌}
 use mathlib.Core.Bool.{Bool, true, false, cond, true≢false, false≢true}
 use mathlib.Core.List.{List}
 use Prim.Native.Nat.{ℕ}
-use lib.ListN.{length, length-replicate}
+use lib.ListN.{length}
 use Rattle.std.specs.Prelude.{Option, Some, None}
 use lib.Dec.{eqb}
 use Rattle.std.specs.Cmp.Lexicographic.{pointwise}
@@ -19,7 +19,7 @@ use Rattle.execution.specs.declared.Tables.{Tables}
 use Rattle.execution.specs.declared.Response.{Response}
 use Rattle.execution.specs.CommandTable.{version_in, block_in, same, response_to}
 use Rattle.execution.specs.Stored.{Stored, stored_as, no_load}
-use Rattle.execution.specs.Promise.{Executed, tables_with, new_load, grown, stocked_in, fed_in, accepted_in, replaced_in, dropped_in, ended_in, executed_as, executed, responded, response_with, Executes, Drops}
+use Rattle.execution.specs.Promise.{Executed, tables_with, new_load, grown, stocked_in, fed_in, accepted_in, replaced_in, dropped_in, ended_in, executed_as, executed, responded, response_with, Executes}
 use Rattle.execution.proofs.Same.{same_is}
 use Rattle.execution.specs.Steps.{executed_of, Leaves, after_tle, tle_response, Ends}
 
@@ -79,16 +79,16 @@ module _ (t : Tables) (live loading : List ℕ) where
     new = new_extent t.load.network t.live live t.load.kept loading
 
     -- past a limit the load is dropped
-    pub ends_dropped : k ≡ None → (next : Tables) (loading'' : List ℕ) (r : Response) → Drops t loading' next loading'' → r ≡ response_with (ascii "TLE021")
-        → Ends (stored_as t live loading) (record { tables = next; response = r }) live' loading''
+    pub ends_dropped : k ≡ None → (l : OpenLoad) (r : Response) → l ≡ no_load → r ≡ response_with (ascii "TLE021")
+        → Ends (stored_as t live loading) (record { tables = tables_with t l; response = r }) live' loading'
     unfolding accepted_in
-    ends_dropped d next loading'' r n er =
+    ends_dropped d l r el er =
         let s = stored_as t live loading in
         let q = is_none (accepted_in s) new (sym c.answer ∙ d) in
         ends_by s (dropped_in s) (ascii "TLE021") (picked t.load.opened (ended_in s) s o ∙ left (accepted_in s) (replaced_in s) (dropped_in s) q)
         (picked t.load.opened (cond (accepted_in s) (ascii "TLE000") (ascii "TLE021")) (ascii "TLE010") o ∙ left (accepted_in s) (ascii "TLE000") (ascii "TLE021") q)
-        (record { tables = next; response = r }) live' loading'' (λ i. record { tables = n.tables' i; response = er i })
-        (c.store ∙ left _ _ live q) (n.store' ∙ ap zeros (ap length c.zeroed ∙ length-replicate (length loading) 0))
+        _ live' loading' (λ i. record { tables = tables_with t (el i); response = er i })
+        (c.store ∙ left _ _ live q) c.zeroed
 
     -- else the new set is the live one
     pub ends_replaced : (e : Extent) → k ≡ Some e → (v versions : List ℕ) (l : OpenLoad) (r : Response) → v ≡ new_version t.load.any t.load.version

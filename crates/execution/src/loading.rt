@@ -103,7 +103,7 @@ impl Tables {
             return Response::text(b"TLE010");
         }
         let Some(extent) = close_load(live, loading, self.live, load.kept, load.network) else {
-            self.drop_load(loading);
+            self.load = OpenLoad::none();
             return Response::text(b"TLE021");
         };
         *self = Tables {

@@ -6,8 +6,7 @@ pub returns-in_default : goal.returns-in_default
 returns-in_default c =
     let a = c.args in
     let k = c.close_load in
-    let d = c.drop_load in
-    ends_dropped a.self.now a.live.now a.loading.now k.new.live k.new.loading c.if-not-load.false k.result k.ensures c.in_default.is _ _ _ d.ensures c.text-in_default.ensures
+    ends_dropped a.self.now a.live.now a.loading.now k.new.live k.new.loading c.if-not-load.false k.result k.ensures c.in_default.is _ _ c.none-self.ensures c.text-in_default.ensures
 
 pub returns : goal.returns
 returns c =

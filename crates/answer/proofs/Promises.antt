@@ -10,7 +10,7 @@ use lib.Dec.{ltb, eqb}
 use Rattle.std.specs.Prelude.{Option, Result, Ok, Err}
 use Rattle.answer.specs.declared.refusal.Refusal.{Refusal}
 use Rattle.answer.specs.declared.refusal.Refusal.TheVariants.{NoRoom, WrongSize, Unsound, Empty, TooLong, NoPacket, WrongCheck, NoMessage, NoParameter, LongParameter, LongMessage, NotFound, NoTag, NoLength, CutValue, LongValue}
-use Rattle.answer.specs.Refusals.{number_of, IsNumberOf}
+use Rattle.answer.specs.Refusals.{number_of, number_in, IsNumberOf}
 use Rattle.answer.specs.Pieces.{found, rest, whole}
 use Rattle.answer.specs.Answers.{Output, Gives, answer_of, bytes_of, over}
 use Rattle.answer.specs.Digits.{is_digit, is_text, digit_of, two_in, three_in}
@@ -107,6 +107,13 @@ back LongValue = refl
 
 pub same_number : (e f : Refusal) → number_of e ≡ number_of f → e ≡ f
 same_number e f h = sym (back e) ∙ ap numbered h ∙ back f
+
+-- an answer that tells nothing but its refusal is told by its number
+pub same_answer : (r s : Result (Unit {0}) Refusal) → number_in r ≡ number_in s → r ≡ s
+same_answer (Ok u) (Ok v) i = refl
+same_answer (Ok u) (Err b) i = absurd (some_number b (sym i))
+same_answer (Err a) (Ok v) i = absurd (some_number a i)
+same_answer (Err a) (Err b) i = ap (λ (k : Refusal). let z : Result (Unit {0}) Refusal = Err k in z) (same_number a b i)
 
 -- two results that the promise of `put` allows are one, place and buffer
 pub put_one : (out : List ℕ) (at : ℕ) (s : List ℕ) (r q : ℕ) (o o' : List ℕ) → PutIf out at s r o → PutIf out at s q o' → (r ≡ q) × (o ≡ o')

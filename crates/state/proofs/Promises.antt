@@ -3,6 +3,10 @@ use mathlib.Core.Path.{◌≡◌, sym, ◌∙◌}
 use mathlib.Core.Bool.{Bool}
 use mathlib.Core.List.{List, []}
 use Prim.Native.Nat.{ℕ}
+use Rattle.std.specs.Prelude.{Result}
+use Rattle.answer.specs.declared.refusal.Refusal.{Refusal}
+use Rattle.answer.specs.Refusals.{number_in}
+use Rattle.answer.proofs.Promises.{same_answer}
 use Rattle.reception.specs.declared.Line.{Line}
 use Rattle.state.specs.declared.Held.{Held}
 use Rattle.state.specs.declared.Device.{Device}
@@ -30,3 +34,8 @@ can_resend_one held r s e f = e ∙ sym f
 pub refusal_of_one : (device : Device) (room : ℕ) (live loading : List ℕ) (r s : ℕ) → r ≡ refusal_of room (state_as device live loading)
     → s ≡ refusal_of room (state_as device live loading) → r ≡ s
 refusal_of_one device room live loading r s e f = e ∙ sym f
+
+-- `judge`: one answer, which its number tells
+pub judge_one : (device : Device) (room : ℕ) (live loading : List ℕ) (r s : Result (Unit {0}) Refusal) → number_in r ≡ refusal_of room (state_as device live loading)
+    → number_in s ≡ refusal_of room (state_as device live loading) → r ≡ s
+judge_one device room live loading r s e f = same_answer r s (e ∙ sym f)

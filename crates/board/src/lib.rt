@@ -33,7 +33,8 @@ impl Board {
     {
         let mut live = empty_store();
         let mut loading = empty_store();
-        let device = device::start(&mut live, &mut loading).unwrap();
+        let (device, started) = device::start(&mut live, &mut loading);
+        started.unwrap();
         Board {
             device,
             live,

@@ -14,7 +14,7 @@ use Rattle.device.specs.Events.Event.{byte}
 use Rattle.device.specs.Between.{machine_of}
 use Rattle.std.specs.Prelude.{Result, Ok, Err}
 use Rattle.answer.specs.declared.refusal.Refusal.{Refusal}
-use Rattle.answer.proofs.Promises.{some_number, same_number}
+use Rattle.answer.proofs.Promises.{some_number, same_number, same_answer}
 use Rattle.device.specs.declared.Taken.{Taken}
 use Rattle.device.specs.Promise.{Started, Received, Left, after_piece, unless, Gives, Answers, Starts, received, started}
 use Rattle.device.specs.Claims.{Unchanged}
@@ -112,8 +112,5 @@ received_one d e (Err a) (Err b) i = (
   ap (λ (k : Refusal). let z : Result Taken Refusal = Err k in z) (same_number a b (ap (λ (q : Received). q.refusal) i)),
 )
 
-pub started_one : (r s : Result Device Refusal) → started r ≡ started s → r ≡ s
-started_one (Ok d) (Ok e) i = λ j. Ok (i j).device
-started_one (Ok d) (Err b) i = absurd (some_number b (sym (ap (λ (q : Started). q.refusal) i)))
-started_one (Err a) (Ok e) i = absurd (some_number a (ap (λ (q : Started). q.refusal) i))
-started_one (Err a) (Err b) i = ap (λ (k : Refusal). let z : Result Device Refusal = Err k in z) (same_number a b (ap (λ (q : Started). q.refusal) i))
+pub started_one : (d e : Device) (r s : Result (Unit {0}) Refusal) → started d r ≡ started e s → (d ≡ e) × (r ≡ s)
+started_one d e r s i = (ap (λ (q : Started). q.device) i, same_answer r s (ap (λ (q : Started). q.refusal) i))

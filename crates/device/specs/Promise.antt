@@ -2,7 +2,7 @@
 use Rattle.std.specs.Prelude.{ℕ, zero, suc, ◌≡◌, cond, List, [], length, Result, Ok, Err}
 use Rattle.answer.specs.Answers.{over}
 use Rattle.answer.specs.declared.refusal.Refusal.{Refusal}
-use Rattle.answer.specs.Refusals.{number_of}
+use Rattle.answer.specs.Refusals.{number_of, number_in}
 use Rattle.state.specs.declared.Device.{Device}
 use Rattle.state.specs.State.{State, state_as}
 use Rattle.state.specs.Sound.{both_sized, refusal_of}
@@ -66,14 +66,13 @@ abbrev pub started_from : ℕ → List ℕ → List ℕ → State
 started_from zero live loading = state_of fresh
 started_from (suc n) live loading = state_as (state_of fresh).device live loading
 
--- the same of starting: where it is refused, no other device than the fresh one is there to be told
+-- the same of starting: the device, and the refusal or 0
 pub record Started : Type 0 where
   pub device : Device
   pub refusal : ℕ
 
-abbrev pub started : Result Device Refusal → Started
-started (Ok device) = record { device = device; refusal = 0 }
-started (Err e) = record { device = (state_of fresh).device; refusal = number_of e }
+abbrev pub started : {A : Type 0} → Device → Result A Refusal → Started
+started device answer = record { device = device; refusal = number_in answer }
 
 -- THE PROMISE of starting
 pub record Starts (live loading : List ℕ) (r : Started) (live' loading' : List ℕ) : Type 0 where

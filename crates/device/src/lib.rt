@@ -48,16 +48,18 @@ fn fresh_device() -> Device
     }
 }
 
-// Starts a fresh device and zeroes both stores. Refusal: 2. The calls are functions, as the type of a device is another crate's.
-pub fn start(live: &mut [u8], loading: &mut [u8]) -> Result<Device, Refusal>
-    ensures { Starts live.old loading.old (started result) live.new loading.new }
+// Makes a fresh device, and zeroes both stores. Refusal: 2, which leaves the stores; the device is the fresh one all the same. The calls are functions,
+// as the type of a device is another crate's.
+pub fn start(live: &mut [u8], loading: &mut [u8]) -> (Device, Result<(), Refusal>)
+    ensures { Starts live.old loading.old (started result.0 result.1) live.new loading.new }
 {
+    let device = fresh_device();
     if !sizes_good(live, loading) {
-        return Err(Refusal::WrongSize);
+        return (device, Err(Refusal::WrongSize));
     }
     zero_store(live);
     zero_store(loading);
-    Ok(fresh_device())
+    (device, Ok(()))
 }
 
 // Takes the bytes of `piece` up to the one that completes a reply, or all of them.

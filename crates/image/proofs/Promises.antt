@@ -3,13 +3,28 @@ use mathlib.Core.Path.{◌≡◌, sym, ◌∙◌}
 use mathlib.Core.Bool.{Bool}
 use mathlib.Core.List.{List, []}
 use Prim.Native.Nat.{ℕ}
+use Rattle.std.specs.Prelude.{Result}
+use Rattle.answer.specs.declared.refusal.Refusal.{Refusal}
+use Rattle.state.specs.declared.Device.{Device}
+use Rattle.device.specs.declared.Taken.{Taken as Done}
 use Rattle.device.specs.Promise.{Left, start_refusal}
 use Rattle.image.specs.declared.Image.{Image}
-use Rattle.image.specs.Image.{flag_of}
-use Rattle.image.specs.ImagePromise.{Imaged, ImageAnswersBy, started_left, StartsImage, ReceivesImage, TimesOutImage, RestartsImage}
+use Rattle.image.specs.declared.Taken.{Taken}
+use Rattle.image.specs.Image.{flag_of, IsImageOf, IsDeviceOf}
+use Rattle.image.specs.ImagePromise.{Imaged, IsTakenOf, ImageAnswersBy, started_left, StartsImage, ReceivesImage, TimesOutImage, RestartsImage}
 
 pub flag_one : (b : Bool) (r s : ℕ) → r ≡ flag_of b → s ≡ flag_of b → r ≡ s
 flag_one b r s e f = e ∙ sym f
+
+-- an image of a device, a device of an image, and a call's answer for C
+pub image_of_one : (device : Device) (r s : Image) → IsImageOf device r → IsImageOf device s → r ≡ s
+image_of_one device r s i j = i ∙ sym j
+
+pub device_of_one : (image : Image) (r s : Device) → IsDeviceOf image r → IsDeviceOf image s → r ≡ s
+device_of_one image r s i j = i ∙ sym j
+
+pub taken_of_one : (answer : Result Done Refusal) (r s : Taken) → IsTakenOf answer r → IsTakenOf answer s → r ≡ s
+taken_of_one answer r s i j = i ∙ sym j
 
 -- ---- the image after a call with its answer, and every byte of `out` and of both stores
 

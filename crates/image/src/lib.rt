@@ -84,10 +84,8 @@ fn answered(image: &mut Image, device: Device, got: Result<device::Taken, Refusa
 pub fn start_image(image: &mut Image, live: &mut [u8], loading: &mut [u8]) -> Taken
     ensures { StartsImage image.old live.old loading.old (record { image = image.new; answer = result }) live.new loading.new }
 {
-    match device::start(live, loading) {
-        Ok(device) => answered(image, device, Ok(device::SILENT)),
-        Err(error) => Taken::from(Err(error)),
-    }
+    let (device, started) = device::start(live, loading);
+    answered(image, device, started.and(Ok(device::SILENT)))
 }
 
 // Takes a piece of the line's bytes. Here and below a call of its own for each of the device's: a closure that holds the buffers would have to promise

@@ -27,7 +27,7 @@ returns c =
     let e = sym c.sizes_good.ensures ∙ c.if-not-sizes_good.false in
     let l = sized_both (state_as (state_of fresh).device a.live.now a.loading.now) e in
     record {
-      result = simp (e, c.fresh_device.ensures);
+      result = simp (e, c.fresh_device-device.ensures);
       live_is = simp e (c.zero_store.ensures ∙ ap zeros l.0 ∙ sym fresh-live);
       loading_is = simp e (c.zero_store-2.ensures ∙ ap zeros l.1 ∙ sym fresh-loading);
     }

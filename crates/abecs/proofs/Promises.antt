@@ -6,9 +6,10 @@ use mathlib.Core.Bool.{true, false}
 use mathlib.Core.List.{List, []}
 use Prim.Native.Nat.{ℕ, zero, suc, ◌≤◌}
 use lib.ListN.{length}
-use Rattle.std.specs.Prelude.{Err}
+use Rattle.std.specs.Prelude.{Result, Err}
 use Rattle.answer.specs.declared.refusal.Refusal.{Refusal}
 use Rattle.answer.specs.Answers.{Output}
+use Rattle.objects.specs.declared.ObjectRead.{ObjectRead}
 use Rattle.objects.specs.Object.{read_of}
 use Rattle.tables.specs.declared.Extent.{Extent}
 use Rattle.tables.specs.declared.Load.{Load}
@@ -25,8 +26,8 @@ use Rattle.abecs.specs.declared.numbered.LoadOf.{LoadOf}
 use Rattle.abecs.specs.declared.numbered.ClosedOf.{ClosedOf}
 use Rattle.abecs.specs.declared.numbered.Answer.{Answer}
 use Rattle.abecs.specs.declared.numbered.ObjectOf.{ObjectOf}
-use Rattle.abecs.specs.Numbered.{Gives, object_as, IsAnswerOf}
-use Rattle.abecs.specs.Flags.{AddsOf, ClosesOf}
+use Rattle.abecs.specs.Numbered.{Gives, object_as, IsAnswerOf, IsObjectOf}
+use Rattle.abecs.specs.Flags.{IsLoadOf, AddsOf, ClosesOf}
 
 -- two answers of a codec call that its promise allows are one, answer and buffer
 pub gives_one : (output : Output) (out : List ℕ) (r s : Answer) (o o' : List ℕ) → Gives output out r o → Gives output out s o' → (r ≡ s) × (o ≡ o')
@@ -35,6 +36,16 @@ gives_one output out r s o o' g h = (g.answer ∙ sym h.answer, g.bytes ∙ sym 
 -- two answers that a refusal comes to are one
 pub refused_one : (e : Refusal) (r s : Answer) → IsAnswerOf (Err e) r → IsAnswerOf (Err e) s → r ≡ s
 refused_one e r s i j = i ∙ sym j
+
+-- two answers, objects and loads that a conversion allows are one
+pub answer_of_one : (a : Result ℕ Refusal) (r s : Answer) → IsAnswerOf a r → IsAnswerOf a s → r ≡ s
+answer_of_one a r s i j = i ∙ sym j
+
+pub object_of_one : (o : Result ObjectRead Refusal) (r s : ObjectOf) → IsObjectOf o r → IsObjectOf o s → r ≡ s
+object_of_one o r s i j = i ∙ sym j
+
+pub load_of_one : (load : Load) (r s : LoadOf) → IsLoadOf load r → IsLoadOf load s → r ≡ s
+load_of_one load r s i j = i ∙ sym j
 
 pub read_object_one : (input : List ℕ) (r s : ObjectOf) → r ≡ object_as (read_of input) → s ≡ object_as (read_of input) → r ≡ s
 read_object_one input r s e f = e ∙ sym f

@@ -12,6 +12,8 @@
 mod calls;
 mod showing;
 
+ghost use Rattle.std.specs.Prelude.{◌≡◌, length};
+
 use board::Board;
 use calls::Call;
 use script::read_full;
@@ -22,10 +24,17 @@ use std::io::{BufWriter, Write};
 // A longer script is cut.
 const LONGEST: usize = 1048576;
 
+// Room for the longest script. Its `ensures` is all that `main` has to know of so long a list.
+fn empty_script() -> [u8; LONGEST]
+    ensures { 1048576 ≡ length result }
+{
+    [0; LONGEST]
+}
+
 // Reads the script, runs it, and logs the state that it leaves. A script that fills the buffer may have gone on: the log then ends with `script too
 // long`. A read or a write that fails ends the program.
 fn main(rt: HostRuntime) -> io::Result<()> {
-    let mut script = vec![in rt.alloc(); 0u8; LONGEST]?;
+    let mut script = empty_script();
     let n = read_full(&mut rt.stdin(), &mut script)?;
     let mut output = BufWriter::new(rt.alloc(), rt.stdout())?;
     let mut board = Board::new();

@@ -1,8 +1,7 @@
 // The calls that a line can ask for.
-use crate::fields::{Digits, Fields};
+use crate::fields::{Fields, Given, LARGEST, Size};
 use crate::lent::Lent;
-use crate::log;
-use std::alloc::Global;
+use crate::log::Log;
 use std::io;
 use std::io::Write;
 
@@ -13,54 +12,49 @@ pub enum Call<'a> {
     FindParameter {
         number: u16,
         n: usize,
-        list: Digits<'a>,
+        list: &'a [u8],
     },
     // `O HEX`
-    ReadObject(Digits<'a>),
+    ReadObject(&'a [u8]),
     // one that is lent a buffer of that size
     Lent {
-        room: usize,
+        size: Size,
         call: Lent<'a>,
     },
 }
 
 impl<'a> Call<'a> {
-    // The call that a line asks for; none where it is no call.
-    pub fn of(line: &'a [u8]) -> Option<Call<'a>> {
+    // The call that a line asks for; none where it is no call. The bytes of its fields are put in `given`.
+    pub fn of(line: &[u8], given: &'a mut Given) -> Option<Call<'a>> {
         let (letter, rest) = line.split_first()?;
         let mut fields = Fields::of(rest);
         let call = match letter {
             b'F' => Call::FindParameter {
                 number: fields.parameter_number()?,
                 n: fields.number()?,
-                list: fields.bytes()?,
+                list: fields.bytes(&mut given.first)?,
             },
-            b'O' => Call::ReadObject(fields.bytes()?),
+            b'O' => Call::ReadObject(fields.bytes(&mut given.first)?),
             _ => Call::Lent {
-                room: fields.room()?,
-                call: Lent::of(*letter, &mut fields)?,
+                size: fields.size()?,
+                call: Lent::of(*letter, &mut fields, given)?,
             },
         };
         fields.are_taken().then_some(call)
     }
 
-    // Makes the call and logs it.
-    pub fn make<W: Write>(self, output: &mut W, alloc: Global) -> io::Result<()> {
+    // Makes the call and logs it. What it may write to is a part of `room`.
+    pub fn make<W: Write>(self, log: &mut Log<W>, room: &mut [u8; LARGEST]) -> io::Result<()> {
         match self {
             Call::FindParameter { number, n, list } => {
-                let list = list.read(alloc)?;
-                let found = parameters::find(&list, number, n);
-                log::answered(output, found.map(|part| part.len()), found.unwrap_or(&[]))
+                let found = parameters::find(list, number, n);
+                log.answered(found.map(|part| part.len()), found.unwrap_or(&[]))
             }
-            Call::ReadObject(input) => {
-                let read = objects::read_object(&input.read(alloc)?);
-                log::object(output, read)
-            }
-            Call::Lent { room, call } => {
-                // Byte i is i % 251, so that the log shows which bytes the call has written.
-                let mut out: Vec<u8> = (0..=250u8).cycle().take(room).collect(alloc)?;
-                let answer = call.make(alloc, &mut out)?;
-                log::answered(output, answer, &out)
+            Call::ReadObject(input) => log.object(objects::read_object(input)),
+            Call::Lent { size, call } => {
+                let out = size.numbered(room);
+                let answer = call.make(out);
+                log.answered(answer, out)
             }
         }
     }

@@ -1,11 +1,27 @@
 // The fields of a line, each behind one space.
-ghost use Rattle.std.specs.Prelude.{◌<◌, IfSome};
+ghost use Rattle.std.specs.Prelude.{◌≡◌, ◌<◌, ◌≤◌, ◌*◌, length, IfSome};
 
-use std::alloc::{AllocError, Global};
 use std::str;
 
 // The longest field of bytes, and the largest buffer.
-const LARGEST: usize = 8192;
+pub const LARGEST: usize = 8192;
+
+// Room for the bytes of a line's fields, of which a call has two at most.
+#[derive(Drop)]
+pub struct Given {
+    pub first: [u8; LARGEST],
+    pub second: [u8; LARGEST],
+}
+
+impl Given {
+    // With nothing in it yet.
+    pub fn empty() -> Given {
+        Given {
+            first: [0; LARGEST],
+            second: [0; LARGEST],
+        }
+    }
+}
 
 // What is left of a line.
 #[derive(Drop)]
@@ -43,8 +59,9 @@ impl<'a> Fields<'a> {
     }
 
     // The size of a buffer.
-    pub fn room(&mut self) -> Option<usize> {
-        self.number().filter(|n| *n <= LARGEST)
+    pub fn size(&mut self) -> Option<Size> {
+        let size = self.number().filter(|n| *n <= LARGEST)?;
+        Some(Size { size })
     }
 
     // A parameter's number.
@@ -61,31 +78,49 @@ impl<'a> Fields<'a> {
         }
     }
 
-    // Bytes in hexadecimal, or `-` for none.
-    pub fn bytes(&mut self) -> Option<Digits<'a>> {
+    // Bytes in hexadecimal, or `-` for none. They are put at the start of `room`.
+    pub fn bytes<'r>(&mut self, room: &'r mut [u8; LARGEST]) -> Option<&'r [u8]>
+        ensures { IfSome result (λ bytes. length bytes.now ≤ 8192) }
+    {
         match self.text()? {
             [] => None,
-            b"-" => Some(Digits(&[])),
-            digits => Digits::of(digits),
+            b"-" => Some(&[]),
+            digits => read(digits, room),
         }
     }
 }
 
-// Bytes as they are written, two digits for each.
+// The size of a buffer.
 #[derive(Clone, Copy, Debug)]
-pub struct Digits<'a>(&'a [u8]);
+pub struct Size {
+    size: usize,
+    ghost fits: { size ≤ 8192 },
+}
 
-impl<'a> Digits<'a> {
-    // These digits, where they are those of bytes that a field may have.
-    fn of(digits: &'a [u8]) -> Option<Digits<'a>> {
-        let good = digits.len() <= 2 * LARGEST && digits.chunks(2).all(|pair| byte(pair).is_some());
-        good.then_some(Digits(digits))
+impl Size {
+    // A buffer of that size. Byte i is i % 251, so that the log shows which bytes the call has written.
+    pub fn numbered(self, room: &mut [u8; LARGEST]) -> &mut [u8] {
+        let out = &mut room[..self.size];
+        for (b, n) in out.iter_mut().zip((0..=250u8).cycle()) {
+            *b = n;
+        }
+        out
     }
+}
 
-    // The bytes.
-    pub fn read(self, alloc: Global) -> Result<Vec<u8>, AllocError> {
-        self.0.chunks(2).filter_map(byte).collect(alloc)
+// The bytes that the digits stand for, two digits for each.
+fn read<'r>(digits: &[u8], room: &'r mut [u8; LARGEST]) -> Option<&'r [u8]>
+    ensures length { IfSome result (λ bytes. 2 * length bytes.now ≡ length digits.now) }
+    ensures in_bounds { IfSome result (λ bytes. length bytes.now ≤ 8192) }
+{
+    if digits.len() % 2 != 0 || 2 * LARGEST < digits.len() {
+        return None;
     }
+    let bytes = &mut room[..digits.len() / 2];
+    for (b, pair) in bytes.iter_mut().zip(digits.chunks(2)) {
+        *b = byte(pair)?;
+    }
+    Some(bytes)
 }
 
 // The byte that two digits stand for.

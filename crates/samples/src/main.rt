@@ -23,45 +23,61 @@ mod fields;
 mod lent;
 mod log;
 
+ghost use Rattle.std.specs.Prelude.{◌≡◌, length};
+
 use calls::Call;
+use fields::{Given, LARGEST};
+use log::Log;
 use script::read_full;
-use std::alloc::Global;
 use std::io;
 use std::io::{BufWriter, Write};
 
 // A longer script is cut.
 const LONGEST: usize = 1048576;
 
+// Room for the longest script. Its `ensures` is all that `main` has to know of so long a list.
+fn empty_script() -> [u8; LONGEST]
+    ensures { 1048576 ≡ length result }
+{
+    [0; LONGEST]
+}
+
 // Reads the script and runs it. A full buffer can't tell whether the script went on: what was read is run, its last
 // line as it was cut, and the log then ends with `script too long`. A read or a write that fails ends the program.
 fn main(rt: HostRuntime) -> io::Result<()> {
-    let alloc = rt.alloc();
-    let mut script = vec![in alloc; 0u8; LONGEST]?;
+    let mut script = empty_script();
     let n = read_full(&mut rt.stdin(), &mut script)?;
-    let mut output = BufWriter::new(alloc, rt.stdout())?;
-    run_script(&mut output, alloc, &script[..n])?;
+    let mut log = Log::new(BufWriter::new(rt.alloc(), rt.stdout())?);
+    run_script(&mut log, &script[..n])?;
     if n == LONGEST {
-        writeln!(output, "script too long")?;
+        log.too_long()?;
     }
-    output.flush()
+    log.flush()
 }
 
-// Runs each line of `script`.
-fn run_script<W: Write>(output: &mut W, alloc: Global, script: &[u8]) -> io::Result<()> {
+// Runs each line of `script`. What a call is given, and the room that it may write to, are made once, since to make them costs more than a short call.
+fn run_script<W: Write>(log: &mut Log<W>, script: &[u8]) -> io::Result<()> {
+    let mut given = Given::empty();
+    let mut room = [0u8; LARGEST];
     for ended in script.split_inclusive(|b| *b == b'\n') {
         let line = ended.strip_suffix(b"\n").unwrap_or(ended);
-        run_line(output, alloc, line)?;
+        run_line(log, line, &mut given, &mut room)?;
     }
     Ok(())
 }
 
 // Runs one line.
-fn run_line<W: Write>(output: &mut W, alloc: Global, line: &[u8]) -> io::Result<()> {
+fn run_line<W: Write>(
+    log: &mut Log<W>,
+    line: &[u8],
+    given: &mut Given,
+    room: &mut [u8; LARGEST],
+) -> io::Result<()> {
     if line.starts_with(b"#") {
-        return log::comment(output, line);
+        return log.comment(line);
     }
-    match Call::of(line) {
-        Some(call) => call.make(output, alloc),
-        None => writeln!(output, "bad line"),
+    match Call::of(line, given) {
+        Some(call) => call.make(log, room),
+        None => log.bad_line(),
     }
 }
